@@ -1,0 +1,10 @@
+//! Lists, wrapped 64-bit arithmetic and the storage that programs run over.
+//!
+//! Every crate of the project stands on this one.
+#![tactic(auto)]
+
+pub mod bytes;
+pub mod list;
+pub mod no_memory;
+pub mod nums;
+pub mod words;
