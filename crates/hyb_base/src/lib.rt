@@ -4,7 +4,12 @@
 #![tactic(auto)]
 
 pub mod bytes;
+pub mod cells;
+pub mod env;
 pub mod list;
 pub mod no_memory;
 pub mod nums;
+pub mod ops;
+#[cfg(test)]
+mod tests;
 pub mod words;
