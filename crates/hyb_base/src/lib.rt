@@ -13,3 +13,4 @@ pub mod ops;
 #[cfg(test)]
 mod tests;
 pub mod words;
+pub mod wrap;
