@@ -1,2 +1,4 @@
 pub mod Count
+pub mod Decimal
+pub mod Near
 pub mod Wrap

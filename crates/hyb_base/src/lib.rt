@@ -5,8 +5,10 @@
 
 pub mod bytes;
 pub mod cells;
+pub mod decimal;
 pub mod env;
 pub mod list;
+pub mod near;
 pub mod no_memory;
 pub mod nums;
 pub mod ops;
