@@ -1,0 +1,140 @@
+//! Programs: units of statements, and the tables of their names, storage and loops.
+ghost use Rattle.std.specs.Prelude.{◌≡◌};
+
+use crate::code::Code;
+use crate::expr::{Expr, Kind};
+use crate::name::Name;
+use crate::specification::Bound;
+use crate::stmt::Stmt;
+use hyb_base::bytes::Bytes;
+use hyb_base::list::List;
+use hyb_base::nums::Nums;
+
+/// A statement's lines, joined (ANSI X3.9-1978, section 3.2).
+#[derive(Drop)]
+pub struct Card {
+    /// The statement label, without leading zeros.
+    pub label: Option<u32>,
+    /// The initial line, counted from 1.
+    pub line: u32,
+    /// The statement's characters, without the blanks outside character constants.
+    pub text: Bytes,
+}
+
+/// A card, and the statement that it spells.
+#[derive(Drop)]
+pub struct Listed {
+    /// The card.
+    pub card: Card,
+    /// The statement.
+    pub stmt: Stmt,
+}
+
+/// The statements of a unit, in order.
+pub type Listing = List<Listed>;
+
+/// The dimensions of an array, in order; empty for what is no array.
+pub type Bounds = List<Bound>;
+
+/// Where an entity stands.
+#[derive(Drop)]
+pub enum Place {
+    /// In storage: its first address.
+    Stored(u32),
+    /// A dummy argument: its place, from 0, among the unit's dummies.
+    Dummy(u32),
+    /// Nowhere, a named constant: its value, a constant expression.
+    Constant(Expr),
+}
+
+/// A variable, an array, a dummy argument, a function's result or a named constant of a unit
+/// (ANSI X3.9-1978, section 2.5 to 2.8).
+#[derive(Drop)]
+pub struct Entity {
+    /// Its unit's number, from 0.
+    pub unit: u32,
+    /// Its name.
+    pub name: Name,
+    /// Its type.
+    pub kind: Kind,
+    /// Its length in storage units: 1 for INTEGER and LOGICAL, the number of characters for CHARACTER, and 0 for a
+    /// length `(*)` or one that is refused.
+    pub len: u32,
+    /// Its dimensions.
+    pub bounds: Bounds,
+    /// Where it stands.
+    pub place: Place,
+}
+
+/// The entities of all units: unit by unit, in a unit by the name's first appearance.
+pub type Entities = List<Entity>;
+
+/// A connected class of entities that overlap in storage, from its least to its greatest address.
+#[derive(Clone, Copy, Debug, PartialEq, Eq)]
+pub struct Region {
+    /// The least address.
+    pub start: u32,
+    /// The number of storage units.
+    pub len: u32,
+}
+
+/// Regions, by their starts. Their numbers are their places, from 0.
+pub type Regions = List<Region>;
+
+/// Where everything stands in storage, and what is there before the first step.
+#[derive(Drop)]
+pub struct Layout {
+    /// The regions.
+    pub regions: Regions,
+    /// The entities.
+    pub entities: Entities,
+    /// The number of storage units.
+    pub total: u32,
+    /// The number in each unit before the first step.
+    pub first: Nums,
+}
+
+/// A DO loop (ANSI X3.9-1978, section 11.10).
+#[derive(Clone, Copy, Debug, PartialEq, Eq)]
+pub struct Loop {
+    /// The initial line of its DO statement.
+    pub line: u32,
+    /// The number of its DO among the DO statements of the file, from 1.
+    pub ordinal: u32,
+    /// Its unit's number, from 0.
+    pub unit: u32,
+    /// The first statement of its range, counted among the statements of the file from 1.
+    pub from: u32,
+    /// Its terminal statement, counted likewise.
+    pub last: u32,
+    /// Whether it is closed: what it runs neither reads, prints nor stops, and leaves its range only at the end.
+    pub closed: bool,
+}
+
+/// The DO loops of a file. In the order of their DO statements the loop of ordinal d stands at place d - 1.
+pub type Loops = List<Loop>;
+
+/// A program unit (ANSI X3.9-1978, section 2.4).
+#[derive(Drop)]
+pub struct Unit {
+    /// Its name, none for a main program without a PROGRAM statement.
+    pub name: Option<Name>,
+    /// Its statements.
+    pub listing: Listing,
+    /// Its code, empty until it is made.
+    pub code: Code,
+}
+
+/// The units of a file, in order. Their numbers are their places, from 0.
+pub type Units = List<Unit>;
+
+/// A program.
+#[derive(Drop)]
+pub struct Program {
+    /// Its units.
+    pub units: Units,
+    /// Its storage.
+    pub layout: Layout,
+    /// Its DO loops.
+    pub loops: Loops,
+}
