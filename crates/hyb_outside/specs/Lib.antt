@@ -1,0 +1,4 @@
+pub mod Count
+pub mod Seen
+pub mod FilesSeen
+pub mod Pieces
