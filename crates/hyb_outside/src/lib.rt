@@ -4,7 +4,9 @@
 //! implementations in memory that tests use, those that never fail, and the edge over real files and streams.
 #![tactic(auto)]
 
+mod calls;
 pub mod failed;
 pub mod files;
+pub mod mem_sink;
 pub mod pieces;
 pub mod sink;

@@ -1,7 +1,8 @@
 //! Pieces of output for three sinks, in one order.
-ghost use Rattle.std.specs.Prelude.{[], ◌∷◌, OnOk, OnErr};
+ghost use Rattle.std.specs.Prelude.{[], ◌∷◌, map, OnOk, OnErr};
 ghost use Rattle.hyb_outside.specs.Seen.{Takes, Cuts};
 ghost use Rattle.hyb_outside.specs.Pieces.{piece, sinks, Emits};
+ghost use Rattle.hyb_outside.specs.Parts.{piece_of};
 
 use crate::failed::Failed;
 use crate::sink::Sink;
@@ -50,4 +51,30 @@ pub fn put<O: Sink, N: Sink, Q: Sink>(
         To::Notes => offer(notes, bytes),
         To::Order => offer(order, bytes),
     }
+}
+
+/// Bytes for one of the sinks.
+#[derive(Clone, Copy, Debug)]
+pub struct Part<'a> {
+    /// The sink.
+    pub to: To,
+    /// The bytes.
+    pub bytes: &'a [u8],
+}
+
+/// Offers pieces in their order, up to the first that fails.
+pub fn emit<O: Sink, N: Sink, Q: Sink>(
+    parts: &[Part<'_>],
+    out: &mut O,
+    notes: &mut N,
+    order: &mut Q,
+) -> Result<(), Failed>
+    ensures { Emits (map piece_of parts.now) result
+        (sinks (O.seen out.old) (N.seen notes.old) (Q.seen order.old))
+        (sinks (O.seen out.new) (N.seen notes.new) (Q.seen order.new)) }
+{
+    for part in parts {
+        put(part.to, part.bytes, out, notes, order)?;
+    }
+    Ok(())
 }
