@@ -1,0 +1,12 @@
+//! The outside of a run: files that are read, sinks that take bytes, and the pieces that are offered to them.
+//!
+//! Everything above this crate is generic over `Files` and `Sink`. Here stand the two traits, the
+//! implementations in memory that tests use, those that never fail, and the edge over real files and streams.
+#![tactic(auto)]
+
+mod calls;
+pub mod failed;
+pub mod files;
+pub mod mem_sink;
+pub mod pieces;
+pub mod sink;
