@@ -41,9 +41,10 @@ impl Decimal {
         Decimal { text }
     }
 
-    /// Its bytes.
+    /// Its bytes: 1 to 20.
     pub fn as_slice(&self) -> &[u8]
-        ensures { result.now ≡ self.now }
+        ensures text { result.now ≡ self.now }
+        ensures within { length result.now ≤ 20 }
     {
         self.text.as_slice()
     }
