@@ -32,6 +32,7 @@ pub trait Files {
 
         // the counts
         ensures faults { (seen self.old).faults ≤ (seen self.new).faults }
+        ensures more_ends { (seen self.old).ends ≤ (seen self.new).ends }
         ensures counted_faults { (seen self.new).faults ≤ 2 ^ 64 - 1 }
         ensures counted_ends { (seen self.new).ends ≤ 2 ^ 64 - 1 };
 }
