@@ -1,0 +1,52 @@
+-- The sequential run of a program.
+use Rattle.std.specs.Prelude.{ℕ, zero, suc, ◌+◌, ℤ, pos, List, [], ◌∷◌, slice_index_or, slice_set}
+use Rattle.f77_ast.specs.declared.program.Program.{Program}
+use Rattle.f77_ast.specs.declared.refusal.Fault.{Fault}
+use Rattle.f77_meaning.specs.Event.{Event, reads, writes, moves, prints, ends, faults}
+use Rattle.f77_meaning.specs.Process.{Process, first_process, listed_at, line_of}
+use Rattle.f77_meaning.specs.Step.{event, resumed}
+
+-- how a run ends: at its end, by a fault at a statement's line, or with its steps spent
+pub data End : Type 0 where
+  Ended : End
+  Faulted : (fault : Fault) (line : ℕ) → End
+  Spent : End
+
+-- what a run prints, what it leaves in storage, how many steps it takes and how it ends
+pub record Run : Type 0 where
+  pub lines : List (List ℕ)
+  pub store : List ℤ
+  pub steps : ℕ
+  pub end : End
+
+-- a run that takes so many steps, prints nothing and ends so
+abbrev pub stopped : List ℤ → ℕ → End → Run
+stopped store steps end = record { lines = []; store = store; steps = steps; end = end }
+
+-- a run with one step before it
+abbrev pub one_more : Run → Run
+one_more run = record { lines = run.lines; store = run.store; steps = 1 + run.steps; end = run.end }
+
+-- a run with one step before it, which prints a line
+abbrev pub printed : List ℕ → Run → Run
+printed line run = record { lines = line ∷ run.lines; store = run.store; steps = 1 + run.steps; end = run.end }
+
+-- the run of an event and of what comes after it: a read is answered by the store, a write changes it, and
+-- nothing else touches it; each event is one step
+abbrev pub after : Event → Process → List ℤ → (line : ℕ) → (Process → List ℤ → Run) → Run
+after (reads address by) p store line go = one_more (go (resumed (reads address by) p (slice_index_or store address (pos 0))) store)
+after (writes address value by control) p store line go = one_more (go (resumed (writes address value by control) p (pos 0)) (slice_set store address value))
+after moves p store line go = one_more (go (resumed moves p (pos 0)) store)
+after (prints text) p store line go = printed text (go (resumed (prints text) p (pos 0)) store)
+after ends p store line go = stopped store 1 Ended
+after (faults fault) p store line go = stopped store 1 (Faulted fault line)
+
+-- the run from a process on, for so many steps at most
+abbrev pub run_from : Program → Process → List ℤ → ℕ → Run
+run_from program p store zero = stopped store 0 Spent
+run_from program p store (suc left) =
+    after (event program p) p store (line_of (listed_at program p)) (λ next store. run_from program next store left)
+
+-- the sequential run on an input, for so many steps at most
+abbrev pub sequential_run : Program → (input : List ℕ) → (steps : ℕ) → Run
+sequential_run program input steps = run_from program first_process program.layout.first steps

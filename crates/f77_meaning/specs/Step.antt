@@ -1,0 +1,41 @@
+-- The next event of a process, and how the process goes on.
+use Rattle.std.specs.Prelude.{ℕ, ◌+◌, ℤ, List, [], ◌∷◌, ◌++◌, Option, None, Some}
+use Rattle.f77_ast.specs.declared.program.Listed.{Listed}
+use Rattle.f77_ast.specs.declared.program.Program.{Program}
+use Rattle.f77_ast.specs.declared.stmt.Stmt.{Stmt, Print, End}
+use Rattle.f77_meaning.specs.Demand.{Demand, gives, wants, fails}
+use Rattle.f77_meaning.specs.Event.{Event, reads, prints, ends, faults}
+use Rattle.f77_meaning.specs.Print.{line_of_items}
+use Rattle.f77_meaning.specs.Process.{Process, listed_at}
+
+-- a PRINT reads what its items ask for, and then prints its line
+abbrev pub print_event : Demand (List ℕ) → Event
+print_event (gives line rest) = prints line
+print_event (wants address) = reads address None
+print_event (fails fault) = faults fault
+
+-- the next event of a statement that has read these values: END of the main unit ends the run (section 11.14);
+-- the other statements have no meaning yet, and no accepted program has one
+abbrev pub statement_event : Stmt → List ℤ → Event
+statement_event (Print items) answers = print_event (line_of_items items answers)
+statement_event End answers = ends
+statement_event _ answers = ends
+
+-- the same, where there may be no statement; no process of an accepted program goes past its END
+abbrev pub event_at : Option Listed → List ℤ → Event
+event_at None answers = ends
+event_at (Some listed) answers = statement_event listed.stmt answers
+
+-- what a process does next: a function of the program and the process alone
+abbrev pub event : Program → Process → Event
+event program p = event_at (listed_at program p) p.answers
+
+-- the process at the statement after its own, which has read nothing
+abbrev pub at_next : Process → Process
+at_next p = record { unit = p.unit; at = p.at + 1; answers = [] }
+
+-- how a process goes on after an event, where a read was answered by this value
+abbrev pub resumed : Event → Process → (answer : ℤ) → Process
+resumed (reads address by) p answer = record p { answers = p.answers ++ answer ∷ [] }
+resumed (prints line) p answer = at_next p
+resumed _ p answer = p
