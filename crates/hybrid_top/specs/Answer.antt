@@ -1,0 +1,82 @@
+-- What a command answers: a status and the lines that it prints, by what its files hold.
+use Rattle.std.specs.Prelude.{◌≡◌, ℕ, List, [], ◌∷◌, ◌++◌, map, Option, None, Some, Ok, Err}
+use Rattle.hyb_base.specs.Count.{Rose}
+use Rattle.hyb_outside.specs.declared.pieces.To.{To}
+use Rattle.hyb_outside.specs.declared.pieces.To.TheVariants.{Out, Notes}
+use Rattle.hyb_outside.specs.FilesSeen.{FilesSeen}
+use Rattle.hyb_outside.specs.Pieces.{Piece, piece, TakesAll, StopsIn}
+use Rattle.hyb_outside.specs.Seen.{Seen}
+use Rattle.f77_ast.specs.declared.program.Program.{Program}
+use Rattle.f77_ast.specs.declared.refusal.Refusal.{Refusal}
+use Rattle.f77_meaning.specs.Run.{Run, End, Ended, Faulted, Spent, sequential_run}
+use Rattle.hybrid_top.specs.Command.{RunRequest}
+use Rattle.hybrid_top.specs.FirstForm.{front_of}
+use Rattle.hybrid_top.specs.Reading.{IsWhole, IsTooLong}
+use Rattle.hybrid_top.specs.StatusText.{status_text}
+use Rattle.hybrid_top.specs.declared.status.Status.{Status}
+use Rattle.hybrid_top.specs.declared.status.Status.TheVariants as status
+
+-- the lines that are printed, and the status at the end
+pub record Answer : Type 0 where
+  pub lines : List (List ℕ)
+  pub status : Status
+
+-- an answer before the first step
+abbrev pub stops : Status → Answer
+stops status = record { lines = []; status = status }
+
+-- the status of a run's end
+abbrev pub status_of : End → Status
+status_of Ended = status.Done
+status_of (Faulted fault line) = status.Faulted fault line
+status_of Spent = status.StepsSpent
+
+-- the answer of a run
+abbrev pub ran : Run → Answer
+ran run = record { lines = run.lines; status = status_of run.end }
+
+-- the answers of a command, by what the files hold before it: each has its cause. The bytes of a file are known
+-- where its content is told; where it isn't, they are whatever was read.
+pub data IsAnswer (old new : FilesSeen) (request : Option RunRequest) (answer : Answer) : Type 0 where
+  -- the words fit no row of the command table
+  usage : request ≡ None → answer ≡ stops status.Usage → IsAnswer old new request answer
+  -- a read failed
+  read_fault : (r : RunRequest) → request ≡ Some r → Rose old.faults new.faults → answer ≡ stops status.ReadFault → IsAnswer old new request answer
+  -- no memory was to be had before the first step
+  no_memory : (r : RunRequest) → request ≡ Some r → answer ≡ stops status.NoMemory → IsAnswer old new request answer
+  -- the program has more bytes than a file may have
+  program_limit : (r : RunRequest) → request ≡ Some r → IsTooLong (old.content r.program) → answer ≡ stops (status.FileLimit 1) → IsAnswer old new request answer
+  -- the program isn't accepted
+  refused : (r : RunRequest) (bytes : List ℕ) (refusal : Refusal) → request ≡ Some r → IsWhole (old.content r.program) bytes → front_of bytes ≡ Err refusal → answer ≡ stops (status.Refused refusal) → IsAnswer old new request answer
+  -- the program is accepted, and the input has more bytes than a file may have
+  input_limit : (r : RunRequest) (bytes : List ℕ) (program : Program) → request ≡ Some r → IsWhole (old.content r.program) bytes → front_of bytes ≡ Ok program → IsTooLong (old.content r.input) → answer ≡ stops (status.FileLimit 2) → IsAnswer old new request answer
+  -- the program is accepted, the input is read, and the schedule has more bytes than a file may have
+  schedule_limit : (r : RunRequest) (bytes : List ℕ) (program : Program) (input : List ℕ) → request ≡ Some r → IsWhole (old.content r.program) bytes → front_of bytes ≡ Ok program → IsWhole (old.content r.input) input → IsTooLong (old.content r.schedule) → answer ≡ stops (status.FileLimit 3) → IsAnswer old new request answer
+  -- the program is accepted, both other files are read, and it ran
+  run : (r : RunRequest) (bytes : List ℕ) (program : Program) (input schedule : List ℕ) → request ≡ Some r → IsWhole (old.content r.program) bytes → front_of bytes ≡ Ok program → IsWhole (old.content r.input) input → IsWhole (old.content r.schedule) schedule → answer ≡ ran (sequential_run program input r.steps) → IsAnswer old new request answer
+
+-- the piece of a printed line, with its LF
+abbrev pub line_piece : List ℕ → Piece
+line_piece line = piece Out (line ++ 10 ∷ [])
+
+-- the piece of a status line; Done has none, nor has a fault of writing
+abbrev pub status_pieces : Status → List Piece
+status_pieces status.Done = []
+status_pieces status.WriteFault = []
+status_pieces s = piece Notes (status_text s) ∷ []
+
+-- all pieces of an answer: the lines to `out`, and then the status line to `notes`
+abbrev pub pieces_of : Answer → List Piece
+pieces_of answer = map line_piece answer.lines ++ status_pieces answer.status
+
+-- the sinks take all pieces of the answer and its status is the result, or they stop in one of its pieces and the
+-- result is a fault of writing
+pub data Gives (answer : Answer) (result : Status) (old new : To → Seen) : Type 0 where
+  whole : result ≡ answer.status → TakesAll (pieces_of answer) old new → Gives answer result old new
+  cut : result ≡ status.WriteFault → StopsIn (pieces_of answer) old new → Gives answer result old new
+
+-- a command gives one of its answers
+pub record Answered (request : Option RunRequest) (files_old files_new : FilesSeen) (result : Status) (old new : To → Seen) : Type 0 where
+  pub answer : Answer
+  pub is_answer : IsAnswer files_old files_new request answer
+  pub gives : Gives answer result old new
