@@ -1,2 +1,4 @@
 pub mod Decimals
+pub mod PowerLaws
 pub mod Quotients
+pub mod Wrapping

@@ -31,7 +31,8 @@ impl Model for Decimal {
 impl Decimal {
     /// The text of a number.
     pub fn new(v: i64) -> Decimal
-        ensures { result ≡ decimal_of v }
+        ensures text { result ≡ decimal_of v }
+        ensures short { length result ≤ 20 }
     {
         let mut buffer = Buffer::new();
         let mut text = ArrayVec::new();

@@ -3,8 +3,8 @@ use Rattle.std.proofs.lemmas.Int.{to_z-of_z}
 use Rattle.hyb_base.proofs.Quotients.{quotient_wraps}
 use Rattle.hyb_base.proofs.wrap.wrap_div.Goals as goal
 
-pub returns-else-b-eq0 : goal.returns-else-b-eq0
-returns-else-b-eq0 c =
+pub returns-else-b-eq0-clause-value : goal.returns-else-b-eq0-clause-value
+returns-else-b-eq0-clause-value c =
     let result_fits : FitsSigned w64 c.wrapping_div.result = search rules in
     let a_fits : FitsSigned w64 c.args.a = c.ranges.a in
     let b_fits : FitsSigned w64 c.args.b = c.ranges.b in
