@@ -5,8 +5,11 @@
 #![tactic(auto)]
 
 mod calls;
+mod ends;
 pub mod failed;
 pub mod files;
+pub mod mem_files;
 pub mod mem_sink;
 pub mod pieces;
 pub mod sink;
+mod table;
