@@ -7,3 +7,4 @@ pub mod Calls
 pub mod MemSink
 pub mod Table
 pub mod MemFiles
+pub mod NeverFails

@@ -10,6 +10,8 @@ pub mod failed;
 pub mod files;
 pub mod mem_files;
 pub mod mem_sink;
+pub mod never_fails_files;
+pub mod never_fails_sink;
 pub mod pieces;
 pub mod sink;
 mod table;
