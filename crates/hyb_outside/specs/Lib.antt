@@ -8,3 +8,4 @@ pub mod MemSink
 pub mod Table
 pub mod MemFiles
 pub mod NeverFails
+pub mod StdSink

@@ -14,4 +14,5 @@ pub mod never_fails_files;
 pub mod never_fails_sink;
 pub mod pieces;
 pub mod sink;
+pub mod std_sink;
 mod table;
