@@ -5,6 +5,7 @@
 #![tactic(auto)]
 
 mod calls;
+pub mod disk_files;
 mod ends;
 pub mod failed;
 pub mod files;
