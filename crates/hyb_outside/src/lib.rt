@@ -17,3 +17,5 @@ pub mod pieces;
 pub mod sink;
 pub mod std_sink;
 mod table;
+#[cfg(test)]
+mod tests;
