@@ -9,3 +9,4 @@ pub mod Table
 pub mod MemFiles
 pub mod NeverFails
 pub mod StdSink
+pub mod DiskFiles

@@ -121,8 +121,14 @@ fn read<R: rt::Files>(
 }
 
 impl<R: rt::Files> DiskFiles<R> {
+    ghost use Rattle.std.specs.Prelude.{◌≡◌};
+    ghost use Rattle.hyb_outside.specs.DiskFiles.{disk_files_seen};
+
     /// The files of a runtime, with no faults and no ends so far.
-    pub fn new(rt: R) -> DiskFiles<R> {
+    pub fn new(rt: R) -> DiskFiles<R>
+        ensures faults { (disk_files_seen result).faults ≡ 0 }
+        ensures ends { (disk_files_seen result).ends ≡ 0 }
+    {
         DiskFiles {
             rt,
             last: None,
@@ -133,12 +139,32 @@ impl<R: rt::Files> DiskFiles<R> {
 }
 
 impl<R: rt::Files> Files for DiskFiles<R> {
-    ghost use Rattle.std.specs.Prelude.{true, None};
+    ghost use Rattle.std.specs.Prelude.{◌≡◌, ◌<◌, ◌≤◌, ◌-◌, ◌^◌, length, IfOk, OnOk, OnErr, IsTrue};
+    ghost use Rattle.hyb_base.specs.Count.{next_count, Rose};
+    ghost use Rattle.hyb_outside.specs.FilesSeen.{Gives, IsEnd, ends_after};
+    ghost use Rattle.hyb_outside.specs.DiskFiles.{disk_files_seen};
 
-    ghost seen = { λ f. record { content = λ _. None; faults = f.faults; ends = f.ends; may_read = λ _. true } };
+    ghost seen = { disk_files_seen };
 
     /// Reads a file once.
-    fn read_at(&mut self, name: &[u8], from: u64, into: &mut [u8]) -> Result<usize, Failed> {
+    fn read_at(&mut self, name: &[u8], from: u64, into: &mut [u8]) -> Result<usize, Failed>
+        requires { IsTrue ((disk_files_seen self.old).may_read name.now) }
+        ensures content { (disk_files_seen self.new).content ≡ (disk_files_seen self.old).content }
+        ensures may_read { (disk_files_seen self.new).may_read ≡ (disk_files_seen self.old).may_read }
+        ensures within { IfOk result (λ n. n ≤ length into.old) }
+        ensures gives { IfOk result (λ n. Gives ((disk_files_seen self.old).content name.now) from n into.new) }
+        ensures end { IfOk result (λ n. n ≡ 0 → 0 < length into.old → IsEnd ((disk_files_seen self.old).content name.now) from) }
+        ensures ends { IfOk result (λ n. (disk_files_seen self.new).ends ≡ ends_after n (length into.old) (disk_files_seen self.old).ends) }
+        ensures no_end { OnErr result ((disk_files_seen self.new).ends ≡ (disk_files_seen self.old).ends) }
+        ensures cause { OnErr result (Rose (disk_files_seen self.old).faults (disk_files_seen self.new).faults) }
+        ensures faults { (disk_files_seen self.old).faults ≤ (disk_files_seen self.new).faults }
+        ensures counted_faults { (disk_files_seen self.new).faults ≤ 2 ^ 64 - 1 }
+        ensures counted_ends { (disk_files_seen self.new).ends ≤ 2 ^ 64 - 1 }
+
+        // beyond the trait's: the exact count
+        ensures ok { OnOk result ((disk_files_seen self.new).faults ≡ (disk_files_seen self.old).faults) }
+        ensures failed { OnErr result ((disk_files_seen self.new).faults ≡ next_count (disk_files_seen self.old).faults) }
+    {
         let faults = self.faults;
         let ends = self.ends;
         match read(&self.rt, &mut self.last, name, from, into) {
