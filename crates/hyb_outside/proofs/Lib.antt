@@ -1,3 +1,4 @@
 pub mod Takes
 pub mod Emits
 pub mod Parts
+pub mod TableLemmas

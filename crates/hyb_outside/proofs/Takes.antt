@@ -2,7 +2,7 @@
 use Rattle.std.proofs.Common.{◌≡◌, ℕ, ◌<◌, ◌≤◌, ◌+◌, List, [], ◌++◌, length, take, drop, Option, None, Some, refl, sym, ap, arith, append_assoc, ◌∙◌}
 use Rattle.std.proofs.lemmas.List.{append-nil}
 use Rattle.std.proofs.Math.Seq.{take-add}
-use Rattle.hyb_outside.specs.Count.{Rose}
+use Rattle.hyb_base.specs.Count.{Rose}
 use Rattle.hyb_outside.specs.Seen.{Seen, appended, Takes, Cuts}
 
 -- some bytes and then some more

@@ -1,6 +1,6 @@
 -- The calls that are to fail.
 use Rattle.std.specs.Prelude.{ℕ, List, Contains}
-use Rattle.hyb_outside.specs.Count.{next_count}
+use Rattle.hyb_base.specs.Count.{next_count}
 
 -- the numbers of the calls that are to fail, counted from 1, and how many calls were made
 pub record CallsMade : Type 0 where

@@ -1,6 +1,6 @@
 -- What is known of files.
 use Rattle.std.specs.Prelude.{◌≡◌, ℕ, ◌≤◌, ◌==◌, Bool, ◌&&◌, nat_lt, List, take, drop, length, Option, None, Some, if◌then◌else◌}
-use Rattle.hyb_outside.specs.Count.{next_count}
+use Rattle.hyb_base.specs.Count.{next_count}
 
 -- the content of each name, where it is told; how often a read has failed; how often an end was given;
 -- the names that may be asked for

@@ -1,7 +1,12 @@
-pub mod Count
+pub use Rattle.hyb_base.specs.Count
 pub mod Seen
 pub mod FilesSeen
 pub mod Pieces
 pub mod Parts
 pub mod Calls
 pub mod MemSink
+pub mod Table
+pub mod MemFiles
+pub mod NeverFails
+pub mod StdSink
+pub mod DiskFiles

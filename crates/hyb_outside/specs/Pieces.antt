@@ -3,7 +3,7 @@ use Rattle.std.specs.Prelude.{◌≡◌, ℕ, ◌<◌, List, [], ◌∷◌, ◌+
 use Rattle.hyb_outside.specs.declared.failed.Failed.{Failed}
 use Rattle.hyb_outside.specs.declared.pieces.To.{To}
 use Rattle.hyb_outside.specs.declared.pieces.To.TheVariants.{Out, Notes, Order}
-use Rattle.hyb_outside.specs.Count.{Rose}
+use Rattle.hyb_base.specs.Count.{Rose}
 use Rattle.hyb_outside.specs.Seen.{Seen, Takes}
 
 -- bytes for one of the sinks

@@ -1,6 +1,6 @@
 -- What is known of a sink.
 use Rattle.std.specs.Prelude.{◌≡◌, ℕ, ◌<◌, ◌≤◌, List, ◌++◌, take, length, Option, None, Some}
-use Rattle.hyb_outside.specs.Count.{Rose}
+use Rattle.hyb_base.specs.Count.{Rose}
 
 -- the bytes that a sink has taken, where it tells them, and how often it has failed
 pub record Seen : Type 0 where

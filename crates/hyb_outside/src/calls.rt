@@ -1,6 +1,6 @@
 //! Calls that are to fail, by their numbers.
 ghost use Rattle.std.specs.Prelude.{◌≡◌, [], ◌∷◌, ◌++◌, ◌↔◌, IsTrue, OnOk, OnErr};
-ghost use Rattle.hyb_outside.specs.Count.{next_count};
+ghost use Rattle.hyb_base.specs.Count.{next_count};
 ghost use Rattle.hyb_outside.specs.Calls.{CallsMade, IsListed};
 
 use hyb_base::no_memory::NoMemory;

@@ -1,6 +1,6 @@
 //! What gives the bytes of named files.
 ghost use Rattle.std.specs.Prelude.{◌≡◌, ◌<◌, ◌≤◌, ◌-◌, ◌^◌, length, IfOk, OnErr, IsTrue};
-ghost use Rattle.hyb_outside.specs.Count.{next_count, Rose};
+ghost use Rattle.hyb_base.specs.Count.{next_count, Rose};
 ghost use Rattle.hyb_outside.specs.FilesSeen.{FilesSeen, Gives, IsEnd, ends_after};
 
 use crate::failed::Failed;

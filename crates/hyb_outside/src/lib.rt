@@ -5,8 +5,17 @@
 #![tactic(auto)]
 
 mod calls;
+pub mod disk_files;
+mod ends;
 pub mod failed;
 pub mod files;
+pub mod mem_files;
 pub mod mem_sink;
+pub mod never_fails_files;
+pub mod never_fails_sink;
 pub mod pieces;
 pub mod sink;
+pub mod std_sink;
+mod table;
+#[cfg(test)]
+mod tests;

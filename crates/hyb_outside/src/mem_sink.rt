@@ -55,7 +55,7 @@ impl MemSink {
 
 impl Sink for MemSink {
     ghost use Rattle.std.specs.Prelude.{◌≡◌, ◌<◌, ◌≤◌, ◌-◌, ◌^◌, ◌↔◌, [], ◌++◌, length, take, IfOk, OnOk, OnErr, IsErr};
-    ghost use Rattle.hyb_outside.specs.Count.{next_count, Rose};
+    ghost use Rattle.hyb_base.specs.Count.{next_count, Rose};
     ghost use Rattle.hyb_outside.specs.Seen.{Takes};
     ghost use Rattle.hyb_outside.specs.MemSink.{mem_sink_held, mem_sink_seen, Refuses};
 

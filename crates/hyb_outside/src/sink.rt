@@ -1,6 +1,6 @@
 //! What takes bytes.
 ghost use Rattle.std.specs.Prelude.{◌≡◌, ◌<◌, ◌≤◌, ◌-◌, ◌^◌, [], length, take, IfOk, OnErr};
-ghost use Rattle.hyb_outside.specs.Count.{Rose};
+ghost use Rattle.hyb_base.specs.Count.{Rose};
 ghost use Rattle.hyb_outside.specs.Seen.{Seen, Takes};
 
 use crate::failed::Failed;

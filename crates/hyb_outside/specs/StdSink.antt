@@ -1,0 +1,12 @@
+-- What is known of a sink over a writer.
+use Rattle.std.specs.Prelude.{None}
+use Rattle.hyb_outside.specs.declared.std_sink.StdSink.{StdSink}
+use Rattle.hyb_outside.specs.Seen.{Seen}
+
+-- it tells no bytes
+abbrev pub std_sink_seen : {W : Type 0} → StdSink W → Seen
+std_sink_seen s = record { taken = None; faults = s.faults }
+
+-- the writer that it writes to
+abbrev pub writer_of : {W : Type 0} → StdSink W → W
+writer_of s = s.writer
