@@ -158,6 +158,7 @@ impl<R: rt::Files> Files for DiskFiles<R> {
         ensures no_end { OnErr result ((disk_files_seen self.new).ends ≡ (disk_files_seen self.old).ends) }
         ensures cause { OnErr result (Rose (disk_files_seen self.old).faults (disk_files_seen self.new).faults) }
         ensures faults { (disk_files_seen self.old).faults ≤ (disk_files_seen self.new).faults }
+        ensures more_ends { (disk_files_seen self.old).ends ≤ (disk_files_seen self.new).ends }
         ensures counted_faults { (disk_files_seen self.new).faults ≤ 2 ^ 64 - 1 }
         ensures counted_ends { (disk_files_seen self.new).ends ≤ 2 ^ 64 - 1 }
 

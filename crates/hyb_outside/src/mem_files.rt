@@ -80,6 +80,7 @@ impl Files for MemFiles {
         ensures no_end { OnErr result ((mem_files_seen self.new).ends ≡ (mem_files_seen self.old).ends) }
         ensures cause { OnErr result (Rose (mem_files_seen self.old).faults (mem_files_seen self.new).faults) }
         ensures faults { (mem_files_seen self.old).faults ≤ (mem_files_seen self.new).faults }
+        ensures more_ends { (mem_files_seen self.old).ends ≤ (mem_files_seen self.new).ends }
         ensures counted_faults { (mem_files_seen self.new).faults ≤ 2 ^ 64 - 1 }
         ensures counted_ends { (mem_files_seen self.new).ends ≤ 2 ^ 64 - 1 }
 

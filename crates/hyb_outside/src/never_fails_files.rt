@@ -64,6 +64,7 @@ impl Files for NeverFailsFiles {
         ensures no_end { OnErr result ((never_fails_files_seen self.new).ends ≡ (never_fails_files_seen self.old).ends) }
         ensures cause { OnErr result (Rose (never_fails_files_seen self.old).faults (never_fails_files_seen self.new).faults) }
         ensures faults { (never_fails_files_seen self.old).faults ≤ (never_fails_files_seen self.new).faults }
+        ensures more_ends { (never_fails_files_seen self.old).ends ≤ (never_fails_files_seen self.new).ends }
         ensures counted_faults { (never_fails_files_seen self.new).faults ≤ 2 ^ 64 - 1 }
         ensures counted_ends { (never_fails_files_seen self.new).ends ≤ 2 ^ 64 - 1 }
 
