@@ -8,6 +8,8 @@ pub mod prepare;
 pub mod read_file;
 pub mod status;
 pub mod status_line;
+#[cfg(test)]
+mod tests;
 pub mod top;
 
 pub use top::hybrid;
