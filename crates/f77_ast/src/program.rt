@@ -1,5 +1,7 @@
 //! Programs: units of statements, and the tables of their names, storage and loops.
-ghost use Rattle.std.specs.Prelude.{◌≡◌};
+ghost use Rattle.std.specs.Prelude.{◌≡◌, ◌↔◌, IsTrue, IsSome, IfSome, find};
+ghost use Rattle.std.specs.Option.{option_copied};
+ghost use Rattle.f77_ast.specs.Loop.{has_ordinal, in_place, loop_of, has_loop, NumberedLoopsStandInPlace};
 
 use crate::code::Code;
 use crate::expr::{Expr, Kind};
@@ -138,3 +140,50 @@ pub struct Program {
     /// Its DO loops.
     pub loops: Loops,
 }
+
+impl Program {
+    /// The DO loop of an ordinal: none exactly where no loop has it.
+    ///
+    /// It takes constant time where the loops stand in the order of their ordinals, as those of a file that was
+    /// read do; elsewhere it looks through the list.
+    pub fn loop_at(&self, ordinal: u32) -> Option<&Loop>
+        ensures value { option_copied result ≡ loop_of self.now.loops ordinal }
+        ensures some { IsSome result ↔ IsTrue (has_loop self.now.loops ordinal) }
+        ensures ordinal { IfSome result (λ loop. loop.now.ordinal ≡ ordinal) }
+    {
+        find_loop(self.loops.as_slice(), ordinal)
+    }
+}
+
+/// The loop of an ordinal.
+fn find_loop(loops: &[Loop], ordinal: u32) -> Option<&Loop>
+    ensures { option_copied result ≡ loop_of loops.now ordinal }
+{
+    match in_place(loops, ordinal) {
+        Some(found) => Some(found),
+        None => first_with(ordinal, loops),
+    }
+}
+
+/// The loop at the place of an ordinal, where it has it.
+fn in_place(loops: &[Loop], ordinal: u32) -> Option<&Loop>
+    ensures { option_copied result ≡ in_place loops.now ordinal }
+{
+    let place = (ordinal as usize).saturating_sub(1);
+    match loops.get(place) {
+        Some(candidate) if candidate.ordinal == ordinal => Some(candidate),
+        _ => None,
+    }
+}
+
+/// The first loop that has this ordinal.
+fn first_with(ordinal: u32, loops: &[Loop]) -> Option<&Loop>
+    ensures { option_copied result ≡ find (has_ordinal ordinal) loops.now }
+{
+    loops.iter().find(|candidate| candidate.ordinal == ordinal)
+}
+
+/// A law: where the loops are numbered in order from 1, the loop of an ordinal stands at the ordinal's place.
+pub fn law_of_numbered_loops()
+    ensures { NumberedLoopsStandInPlace }
+{}
