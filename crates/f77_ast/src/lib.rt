@@ -13,3 +13,5 @@ pub mod refusal;
 pub mod specification;
 pub mod step;
 pub mod stmt;
+#[cfg(test)]
+mod tests;
