@@ -161,7 +161,7 @@ fn find_loop(loops: &[Loop], ordinal: u32) -> Option<&Loop>
 {
     match in_place(loops, ordinal) {
         Some(found) => Some(found),
-        None => first_with(ordinal, loops),
+        None => first_with(loops, ordinal),
     }
 }
 
@@ -177,7 +177,7 @@ fn in_place(loops: &[Loop], ordinal: u32) -> Option<&Loop>
 }
 
 /// The first loop that has this ordinal.
-fn first_with(ordinal: u32, loops: &[Loop]) -> Option<&Loop>
+fn first_with(loops: &[Loop], ordinal: u32) -> Option<&Loop>
     ensures { option_copied result ≡ find (has_ordinal ordinal) loops.now }
 {
     loops.iter().find(|candidate| candidate.ordinal == ordinal)
