@@ -16,7 +16,7 @@ pub enum Kind {
     Character,
 }
 
-/// An operator (ANSI X3.9-1978, sections 6.1.1, 6.2.1, 6.3.3 and 6.4.1).
+/// An operator (ANSI X3.9-1978, sections 6.1.1, 6.2.1, 6.3.1 and 6.4.1).
 #[derive(Clone, Copy, Debug, PartialEq, Eq)]
 pub enum Op {
     /// `+` before its one operand.

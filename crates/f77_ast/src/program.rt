@@ -7,7 +7,7 @@ use crate::code::Code;
 use crate::expr::{Expr, Kind};
 use crate::name::Name;
 use crate::specification::Bound;
-use crate::stmt::Stmt;
+use crate::stmt::{Label, Stmt};
 use hyb_base::bytes::Bytes;
 use hyb_base::list::List;
 use hyb_base::nums::Nums;
@@ -16,7 +16,7 @@ use hyb_base::nums::Nums;
 #[derive(Drop)]
 pub struct Card {
     /// The statement label, without leading zeros.
-    pub label: Option<u32>,
+    pub label: Option<Label>,
     /// The initial line, counted from 1.
     pub line: u32,
     /// The statement's characters, without the blanks outside character constants.
@@ -50,7 +50,7 @@ pub enum Place {
 }
 
 /// A variable, an array, a dummy argument, a function's result or a named constant of a unit
-/// (ANSI X3.9-1978, section 2.5 to 2.8).
+/// (ANSI X3.9-1978, sections 2.5 to 2.8).
 #[derive(Drop)]
 pub struct Entity {
     /// Its unit's number, from 0.
