@@ -2,3 +2,4 @@ pub mod Takes
 pub mod Emits
 pub mod Parts
 pub mod TableLemmas
+pub mod ReadLemmas

@@ -18,7 +18,6 @@ bytes_eq-other xs ys ne =
     (bytes_eq-Decides xs ys).0
 
 -- the row at an index is the first with a name
-
 abbrev IsFirst : List Named → List ℕ → ℕ → Named → Type 0
 IsFirst [] name i row = ⊥
 IsFirst (r ∷ rs) name zero row = (row ≡ r) × (bytes_eq r.name name ≡ true)
@@ -42,6 +41,7 @@ len_all : (b : Bool) (n m : ℕ) → suc m ≤ cond (not b) (1 + n) 0 → (b ≡
 len_all true n m h = absurd (omega arith)
 len_all false n m h = (refl, omega arith)
 
+-- what `position` finds is the first with the name
 first_from : (rows : List Named) (name : List ℕ) (i : ℕ) (row : Named) → position_or_len (λ (r : Named). bytes_eq r.name name) rows ≡ i → i < length rows → row ≡ get_or rows i row → IsFirst rows name i row
 first_from [] name i row e h g = absurd (omega arith)
 first_from (r ∷ rs) name zero row e h g = (g, len_none (bytes_eq r.name name) (position_or_len (λ (r : Named). bytes_eq r.name name) rs) e)
@@ -50,12 +50,14 @@ first_from (r ∷ rs) name (suc i) row e h g =
     let h' : i < length rs = omega arith in
     (f.0, first_from rs name i row f.1 h' g)
 
+-- where `position` finds nothing, no row has the name
 none_from : (rows : List Named) (name : List ℕ) → length rows ≤ position_or_len (λ (r : Named). bytes_eq r.name name) rows → NoneHas rows name
 none_from [] name h = tt
 none_from (r ∷ rs) name h =
     let f = len_all (bytes_eq r.name name) (position_or_len (λ (r : Named). bytes_eq r.name name) rs) (length rs) h in
     (f.0, none_from rs name f.1)
 
+-- another content in the first row with the name replaces its content
 first_replaced : (rows : List Named) (name content : List ℕ) (i : ℕ) (row : Named) → IsFirst rows name i row → Replaces name content (content_of rows) (content_of (set rows i (record { name = row.name; content = content })))
 first_replaced [] name content i row f = absurd f
 first_replaced (r ∷ rs) name content zero row f =
@@ -75,6 +77,7 @@ first_replaced (r ∷ rs) name content (suc i) row f =
       others = λ other ne. ap (λ o. cond (bytes_eq r.name other) (Some r.content) o) (rest.others other ne);
     }
 
+-- a row more, where none has the name, gives the name its content
 none_replaced : (rows : List Named) (name content : List ℕ) → NoneHas rows name → Replaces name content (content_of rows) (content_of (rows ++ record { name = name; content = content } ∷ []))
 none_replaced [] name content n = record {
   here = rw (bytes_eq-same name name refl) refl;
@@ -87,6 +90,7 @@ none_replaced (r ∷ rs) name content n =
       others = λ other ne. ap (λ o. cond (bytes_eq r.name other) (Some r.content) o) (rest.others other ne);
     }
 
+-- what `position` says by its answer
 some_position : (a b i : ℕ) → Some i ≡ cond (nat_lt a b) (Some a) None → (a ≡ i) × (i < b)
 some_position a b i e = grind (arith, common_steps)
 

@@ -34,6 +34,10 @@ takes_more bytes done n a b c p q = rw (take-add done n bytes) (takes_then (take
 pub rose_along : (a b c : ℕ) → a ≤ b → b ≤ c → Rose b c → Rose a c
 rose_along a b c p q r = omega arith
 
+-- a count that rose and didn't fall later rose
+pub rose_later : (a b c : ℕ) → Rose a b → b ≤ c → Rose a c
+rose_later a b c r q = omega arith
+
 -- a sink takes a part of a piece, and then fails
 pub cuts : (bytes : List ℕ) (done : ℕ) (a b c : Seen) → done < length bytes → Takes (take done bytes) a b → Takes [] b c → Rose b.faults c.faults → Cuts bytes a c
 cuts bytes done a b c short p q r = record {
