@@ -25,15 +25,6 @@ const END_FILES: [File<'static>; 3] = [
     (b"S", b"WINDOW 4\nMIX 1\n"),
 ];
 
-/// What a command gave.
-#[derive(Drop)]
-struct Given {
-    status: Status,
-    out: MemSink,
-    notes: MemSink,
-    order: MemSink,
-}
-
 /// The words of a text, with blanks between them.
 fn words(alloc: Global, text: &[u8]) -> Result<Words, NoMemory> {
     let mut words = Words::new(alloc);
@@ -55,88 +46,137 @@ fn files(alloc: Global, all: &[File<'_>], fails: u64) -> Result<MemFiles, NoMemo
     Ok(files)
 }
 
-/// Runs a command over files in memory, with the call on `notes` that is to fail; call 0 is none.
-fn run_words(
-    alloc: Global,
-    text: &[u8],
-    mut files: MemFiles,
-    fails: u64,
-) -> Result<Given, NoMemory> {
-    let words = words(alloc, text)?;
-    let mut out = MemSink::new(alloc, ROOM)?;
-    let mut notes = MemSink::new(alloc, ROOM)?;
-    notes.fail_at(fails)?;
-    let mut order = MemSink::new(alloc, ROOM)?;
-    let status = hybrid(alloc, &words, &mut files, &mut out, &mut notes, &mut order);
-    Ok(Given {
-        status,
-        out,
-        notes,
-        order,
-    })
-}
-
-/// The refusal of a line by a rule.
-fn refused(line: u32, code: u8) -> Status {
-    Status::Refused(Refusal { line, code })
-}
-
-/// The answer to a program of these bytes, alone: `out` takes nothing.
-#[derive(Drop)]
-struct ProgramCase {
-    program: &'static [u8],
+/// What a command is to give.
+#[derive(Clone, Copy, Drop)]
+struct Want<'a> {
     status: Status,
-    notes: &'static [u8],
+    out: &'a [u8],
+    notes: &'a [u8],
 }
 
-const fn program(program: &'static [u8], status: Status, notes: &'static [u8]) -> ProgramCase {
-    ProgramCase {
-        program,
+/// A wish without lines.
+const fn no_lines(status: Status, notes: &[u8]) -> Want<'_> {
+    Want {
         status,
+        out: b"",
         notes,
     }
 }
 
+/// Whether a command over files in memory gives what is wanted, with `order` kept and with `order` dropped. The
+/// calls on `out` and `notes` of these numbers are to fail; 0 is none.
+fn gives(
+    alloc: Global,
+    text: &[u8],
+    all: &[File<'_>],
+    fails: Fails,
+    want: Want<'_>,
+) -> Result<bool, NoMemory> {
+    let words = words(alloc, text)?;
+    let mut out = MemSink::new(alloc, ROOM)?;
+    out.fail_at(fails.out)?;
+    let mut notes = MemSink::new(alloc, ROOM)?;
+    notes.fail_at(fails.notes)?;
+    let mut order = MemSink::new(alloc, ROOM)?;
+    let status = hybrid(
+        alloc,
+        &words,
+        &mut files(alloc, all, fails.files)?,
+        &mut out,
+        &mut notes,
+        &mut order,
+    );
+    let kept = status == want.status
+        && out.taken() == want.out
+        && notes.taken() == want.notes
+        && order.taken().is_empty();
+    Ok(kept && gives_again(alloc, &words, all, fails, want)?)
+}
+
+/// The same with a sink that keeps nothing as `order`.
+fn gives_again(
+    alloc: Global,
+    words: &Words,
+    all: &[File<'_>],
+    fails: Fails,
+    want: Want<'_>,
+) -> Result<bool, NoMemory> {
+    let mut out = MemSink::new(alloc, ROOM)?;
+    out.fail_at(fails.out)?;
+    let mut notes = MemSink::new(alloc, ROOM)?;
+    notes.fail_at(fails.notes)?;
+    let status = hybrid(
+        alloc,
+        words,
+        &mut files(alloc, all, fails.files)?,
+        &mut out,
+        &mut notes,
+        &mut NeverFailsSink::new(),
+    );
+    Ok(status == want.status && out.taken() == want.out && notes.taken() == want.notes)
+}
+
+/// The calls that are to fail, counted from 1; 0 is none.
+#[derive(Clone, Copy, Drop)]
+struct Fails {
+    files: u64,
+    out: u64,
+    notes: u64,
+}
+
+/// No call fails.
+const NONE: Fails = Fails {
+    files: 0,
+    out: 0,
+    notes: 0,
+};
+
+/// Whether a program alone gives what is wanted.
+fn program_gives(alloc: Global, program: &[u8], want: Want<'_>) -> Result<bool, NoMemory> {
+    let all: [File<'_>; 3] = [(b"P", program), (b"I", b""), (b"S", b"")];
+    gives(alloc, b"run P I S 1", &all, NONE, want)
+}
+
+/// The refusal of a line by a rule.
+const fn refused(line: u32, code: u8) -> Status {
+    Status::Refused(Refusal { line, code })
+}
+
 #[test]
 fn programs(rt: HostRuntime) -> Result<(), Fail> {
-    let alloc = rt.alloc();
-    let done = Status::Done;
-    let cases = [
-        program(b"      END\n", done, b""),
-        program(b"      END", done, b""),
-        program(b"       E ND  \n", done, b""),
-        program(b"", refused(1, 54), b"REFUSED 1 54\n"),
-        program(b"\n", refused(1, 21), b"REFUSED 1 21\n"),
-        program(b"      PRINT *, 7\n", refused(1, 21), b"REFUSED 1 21\n"),
-        program(b"END\n", refused(1, 21), b"REFUSED 1 21\n"),
-        program(b"10    END\n", refused(1, 21), b"REFUSED 1 21\n"),
-        program(b"     1END\n", refused(1, 21), b"REFUSED 1 21\n"),
-        program(b"      end\n", refused(1, 21), b"REFUSED 1 21\n"),
-        program(b"      END\r\n", refused(1, 21), b"REFUSED 1 21\n"),
-        program(b"      ENDE\n", refused(1, 21), b"REFUSED 1 21\n"),
-        program(b"      END\n      END\n", refused(2, 21), b"REFUSED 2 21\n"),
-        program(b"      END\n\n", refused(2, 21), b"REFUSED 2 21\n"),
-        program(b"\tEND\n", refused(1, 1), b"REFUSED 1 1\n"),
-        program(
+    let cases: [(&[u8], Status, &[u8]); 16] = [
+        (b"      END\n", Status::Done, b""),
+        (b"      END", Status::Done, b""),
+        (b"       E ND  \n", Status::Done, b""),
+        (b"", refused(1, 54), b"REFUSED 1 54\n"),
+        (b"\n", refused(1, 21), b"REFUSED 1 21\n"),
+        (b"      PRINT *, 7\n", refused(1, 21), b"REFUSED 1 21\n"),
+        (b"END\n", refused(1, 21), b"REFUSED 1 21\n"),
+        (b"10    END\n", refused(1, 21), b"REFUSED 1 21\n"),
+        (b"     1END\n", refused(1, 21), b"REFUSED 1 21\n"),
+        (b"      end\n", refused(1, 21), b"REFUSED 1 21\n"),
+        (b"      END\r\n", refused(1, 21), b"REFUSED 1 21\n"),
+        (b"      ENDE\n", refused(1, 21), b"REFUSED 1 21\n"),
+        (b"      END\n      END\n", refused(2, 21), b"REFUSED 2 21\n"),
+        (b"      END\n\n", refused(2, 21), b"REFUSED 2 21\n"),
+        (b"\tEND\n", refused(1, 1), b"REFUSED 1 1\n"),
+        (
             b"      X\n      END\n      END\t\n",
             refused(3, 1),
             b"REFUSED 3 1\n",
         ),
     ];
-    for case in &cases {
-        let all: [File<'_>; 3] = [(b"P", case.program), (b"I", b""), (b"S", b"")];
-        let given = run_words(alloc, b"run P I S 1", files(alloc, &all, 0)?, 0)?;
-        assert_eq!(rt; given.status, case.status);
-        assert!(rt; given.out.taken().is_empty());
-        assert!(rt; given.notes.taken() == case.notes);
-        assert!(rt; given.order.taken().is_empty());
+    for (at, (program, status, notes)) in cases.iter().enumerate() {
+        assert!(rt;
+            program_gives(rt.alloc(), program, no_lines(*status, notes))?,
+            "program {at}"
+        );
     }
     Ok(())
 }
 
 #[test]
 fn words_of_commands(rt: HostRuntime) -> Result<(), Fail> {
-    let alloc = rt.alloc();
     let usage: [&[u8]; 14] = [
         b"",
         b"run P",
@@ -154,9 +194,15 @@ fn words_of_commands(rt: HostRuntime) -> Result<(), Fail> {
         b"bulk 4",
     ];
     for text in usage {
-        let given = run_words(alloc, text, files(alloc, &END_FILES, 0)?, 0)?;
-        assert_eq!(rt; given.status, Status::Usage);
-        assert!(rt; given.notes.taken() == b"USAGE\n".as_slice());
+        assert!(rt;
+            gives(
+                rt.alloc(),
+                text,
+                &END_FILES,
+                NONE,
+                no_lines(Status::Usage, b"USAGE\n")
+            )?
+        );
     }
     let accepted: [&[u8]; 3] = [
         b"run P I S 1",
@@ -164,86 +210,151 @@ fn words_of_commands(rt: HostRuntime) -> Result<(), Fail> {
         b"run P I S 1000000000",
     ];
     for text in accepted {
-        let given = run_words(alloc, text, files(alloc, &END_FILES, 0)?, 0)?;
-        assert_eq!(rt; given.status, Status::Done);
+        assert!(rt;
+            gives(
+                rt.alloc(),
+                text,
+                &END_FILES,
+                NONE,
+                no_lines(Status::Done, b"")
+            )?
+        );
     }
-    let mut empty_name = words(alloc, b"run P I")?;
-    empty_name.push(Bytes::new(alloc))?;
-    empty_name.push(Bytes::from_slice(alloc, b"1")?)?;
-    let mut all = files(alloc, &END_FILES, 0)?;
-    let mut out = MemSink::new(alloc, ROOM)?;
-    let mut notes = MemSink::new(alloc, ROOM)?;
-    let mut order = NeverFailsSink::new();
-    let status = hybrid(
-        alloc,
-        &empty_name,
-        &mut all,
-        &mut out,
-        &mut notes,
-        &mut order,
-    );
-    assert_eq!(rt; status, Status::Usage);
     Ok(())
 }
 
 #[test]
-fn outside(rt: HostRuntime) -> Result<(), Fail> {
-    let alloc = rt.alloc();
-    let text = b"run P I S 1";
-
+fn failing_calls(rt: HostRuntime) -> Result<(), Fail> {
     // calls 1 and 2 read the program and its end, call 3 the input, calls 4 and 5 the schedule and its end
-    for call in 0..7u64 {
-        let given = run_words(alloc, text, files(alloc, &END_FILES, call)?, 0)?;
-        let fails = 1 <= call && call <= 5;
-        assert_eq!(rt;
-            given.status,
-            if fails {
-                Status::ReadFault
-            } else {
-                Status::Done
-            }
+    for call in 1..6u64 {
+        let fails = Fails {
+            files: call,
+            ..NONE
+        };
+        let fault = no_lines(Status::ReadFault, b"READ FAULT\n");
+        assert!(rt;
+            gives(rt.alloc(), b"run P I S 1", &END_FILES, fails, fault)?,
+            "call {call}"
         );
-        let want: &[u8] = if fails { b"READ FAULT\n" } else { b"" };
-        assert!(rt; given.notes.taken() == want);
     }
-
-    // each file missing
-    for missing in 0..END_FILES.len() {
-        let mut some = MemFiles::new(alloc);
-        for (place, (name, content)) in END_FILES.iter().enumerate() {
-            if place != missing {
-                some.add(name, content)?;
-            }
-        }
-        let given = run_words(alloc, text, some, 0)?;
-        assert_eq!(rt; given.status, Status::ReadFault);
-    }
-
-    // a refusal comes before the input is read
-    let no_input: [File<'_>; 1] = [(b"P", b"      X\n")];
-    let before = run_words(alloc, text, files(alloc, &no_input, 0)?, 0)?;
-    assert_eq!(rt; before.status, refused(1, 21));
-
-    // each file at the limit, and one byte over it
-    let limit = vec![in alloc; b' '; 1_048_576]?;
-    let over = vec![in alloc; b' '; 1_048_577]?;
-    let long = [
-        (b"P", limit.as_slice(), refused(1, 21)),
-        (b"P", over.as_slice(), Status::FileLimit(1)),
-        (b"I", limit.as_slice(), Status::Done),
-        (b"I", over.as_slice(), Status::FileLimit(2)),
-        (b"S", limit.as_slice(), Status::Done),
-        (b"S", over.as_slice(), Status::FileLimit(3)),
-    ];
-    for (name, content, want) in long {
-        let mut all = files(alloc, &END_FILES, 0)?;
-        all.add(name, content)?;
-        assert_eq!(rt; run_words(alloc, text, all, 0)?.status, want);
-    }
+    let past = Fails { files: 6, ..NONE };
+    assert!(rt;
+        gives(
+            rt.alloc(),
+            b"run P I S 1",
+            &END_FILES,
+            past,
+            no_lines(Status::Done, b"")
+        )?
+    );
 
     // a status line that can't be written
-    let unwritten = run_words(alloc, b"run P", files(alloc, &END_FILES, 0)?, 1)?;
-    assert_eq!(rt; unwritten.status, Status::WriteFault);
-    assert!(rt; unwritten.notes.taken().is_empty());
+    let unwritten = Fails { notes: 1, ..NONE };
+    assert!(rt;
+        gives(
+            rt.alloc(),
+            b"run P",
+            &END_FILES,
+            unwritten,
+            no_lines(Status::WriteFault, b"")
+        )?
+    );
+    Ok(())
+}
+
+/// Whether a run over three files gives what is wanted, without lines.
+fn files_give(
+    alloc: Global,
+    program: &[u8],
+    input: File<'_>,
+    schedule: File<'_>,
+    status: Status,
+    notes: &[u8],
+) -> Result<bool, NoMemory> {
+    let mut all = files(alloc, &[(b"P", program)], 0)?;
+    let (name, content) = input;
+    all.add(name, content)?;
+    let (name, content) = schedule;
+    all.add(name, content)?;
+    let mut out = MemSink::new(alloc, ROOM)?;
+    let mut sink = MemSink::new(alloc, ROOM)?;
+    let given = hybrid(
+        alloc,
+        &words(alloc, b"run P I S 1")?,
+        &mut all,
+        &mut out,
+        &mut sink,
+        &mut NeverFailsSink::new(),
+    );
+    Ok(given == status && out.taken().is_empty() && sink.taken() == notes)
+}
+
+#[test]
+fn missing_and_long_files(rt: HostRuntime) -> Result<(), Fail> {
+    let alloc = rt.alloc();
+    let limit = vec![in alloc; b' '; 1_048_576]?;
+    let over = vec![in alloc; b' '; 1_048_577]?;
+    let (end, fault): (&[u8], &[u8]) = (b"      END\n", b"READ FAULT\n");
+    let missing: File<'static> = (b"X", b"");
+    let input: File<'static> = (b"I", b"");
+    let schedule: File<'static> = (b"S", b"");
+    assert!(rt; files_give(alloc, end, missing, schedule, Status::ReadFault, fault)?);
+    assert!(rt; files_give(alloc, end, input, missing, Status::ReadFault, fault)?);
+
+    // a refusal comes before the input is read
+    assert!(rt;
+        files_give(
+            alloc,
+            b"      X\n",
+            missing,
+            missing,
+            refused(1, 21),
+            b"REFUSED 1 21\n"
+        )?
+    );
+
+    // each file at the limit, and one byte over it
+    assert!(rt;
+        files_give(
+            alloc,
+            &limit,
+            missing,
+            missing,
+            refused(1, 21),
+            b"REFUSED 1 21\n"
+        )?
+    );
+    assert!(rt;
+        files_give(
+            alloc,
+            &over,
+            missing,
+            missing,
+            Status::FileLimit(1),
+            b"FILE LIMIT 1\n"
+        )?
+    );
+    assert!(rt; files_give(alloc, end, (b"I", &limit), schedule, Status::Done, b"")?);
+    assert!(rt;
+        files_give(
+            alloc,
+            end,
+            (b"I", &over),
+            missing,
+            Status::FileLimit(2),
+            b"FILE LIMIT 2\n"
+        )?
+    );
+    assert!(rt; files_give(alloc, end, input, (b"S", &limit), Status::Done, b"")?);
+    assert!(rt;
+        files_give(
+            alloc,
+            end,
+            input,
+            (b"S", &over),
+            Status::FileLimit(3),
+            b"FILE LIMIT 3\n"
+        )?
+    );
     Ok(())
 }
