@@ -109,7 +109,8 @@ pub struct Loop {
     pub from: u32,
     /// Its terminal statement, counted likewise.
     pub last: u32,
-    /// Whether it is closed: what it runs neither reads, prints nor stops, and leaves its range only at the end.
+    /// Whether it is closed: its range and every unit that it can reach by CALL or function reference hold no READ,
+    /// PRINT, WRITE or STOP, and its range holds no RETURN and no jump to a label outside it.
     pub closed: bool,
 }
 

@@ -70,7 +70,7 @@ pub enum Fault {
     Substring,
     /// A DO increment of 0.
     ZeroIncrement,
-    /// A DO's count, or its variable's value at the end of the loop, is not from -2^63 to 2^63 - 1.
+    /// A DO's count, or its variable's value at the end of the loop, is not from -2^63 to 2^63 - 1, at entry.
     DoRange,
     /// A write to a dummy that is bound to a value.
     ValueDummyAssigned,
@@ -82,7 +82,8 @@ pub enum Fault {
     LineLimit,
     /// CHAR of a number outside 0 to 255.
     CharRange,
-    /// A write to the variable of a DO or implied DO that is running, but by its own control.
+    /// A write to the variable of a DO or implied DO that is running, in any frame, but by its own
+    /// control.
     DoVariableWritten,
 }
 

@@ -4,7 +4,7 @@ use Rattle.f77_ast.specs.declared.program.Listed.{Listed}
 use Rattle.f77_ast.specs.declared.program.Program.{Program}
 use Rattle.f77_ast.specs.declared.stmt.Stmt.{Stmt, Print, End}
 use Rattle.f77_meaning.specs.Demand.{Demand, gives, wants, fails}
-use Rattle.f77_meaning.specs.Event.{Event, reads, prints, ends, faults}
+use Rattle.f77_meaning.specs.Event.{Event, reads, writes, moves, prints, ends, faults}
 use Rattle.f77_meaning.specs.Print.{line_of_items}
 use Rattle.f77_meaning.specs.Process.{Process, listed_at}
 
@@ -14,7 +14,8 @@ print_event (gives line rest) = prints line
 print_event (wants address) = reads address None
 print_event (fails fault) = faults fault
 
--- the next event of a statement that has read these values: END of the main unit ends the run (section 11.14);
+-- the next event of a statement that has read these values: END of the main unit ends the run (ANSI X3.9-1978,
+-- section 11.14);
 -- the other statements have no meaning yet, and no accepted program has one
 abbrev pub statement_event : Stmt → List ℤ → Event
 statement_event (Print items) answers = print_event (line_of_items items answers)
@@ -34,8 +35,16 @@ event program p = event_at (listed_at program p) p.answers
 abbrev pub at_next : Process → Process
 at_next p = record { unit = p.unit; at = p.at + 1; answers = [] }
 
--- how a process goes on after an event, where a read was answered by this value
-abbrev pub resumed : Event → Process → (answer : ℤ) → Process
-resumed (reads address by) p answer = record p { answers = p.answers ++ answer ∷ [] }
-resumed (prints line) p answer = at_next p
-resumed _ p answer = p
+-- how a process goes on after an event, where a read was answered by this value: the statement that reads knows one
+-- value more, and the others are done; a process that has ended or met a fault stands still
+abbrev pub resumed_by : Event → Process → (answer : ℤ) → Process
+resumed_by (reads address by) p answer = record p { answers = p.answers ++ answer ∷ [] }
+resumed_by (writes address value by control) p answer = at_next p
+resumed_by moves p answer = at_next p
+resumed_by (prints line) p answer = at_next p
+resumed_by ends p answer = p
+resumed_by (faults fault) p answer = p
+
+-- how a process goes on: a function of the program, the process and the answer alone
+abbrev pub resumed : Program → Process → (answer : ℤ) → Process
+resumed program p answer = resumed_by (event program p) p answer

@@ -1,6 +1,7 @@
 //! The operators of accumulations and of relations.
 
-/// The operator of an accumulation: a statement that puts `v op e` into the variable `v`.
+/// The operator of an accumulation: an assignment to `v` whose right side is `v op e`, `e op v`, a chain that begins
+/// with `v`, or MAX or MIN with `v` as first or last argument.
 ///
 /// The identity of an operator is the value that a partial result starts with.
 /// A logical value is a number: 0 is false, any other is true, and an operator on truth gives 0 or 1.

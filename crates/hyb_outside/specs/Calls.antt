@@ -7,6 +7,6 @@ pub record CallsMade : Type 0 where
   pub fails : List ℕ
   pub calls : ℕ
 
--- the next call is to fail
+-- the next call is to fail (after 2 ^ 64 - 1 calls each counts as that one: no run makes so many)
 abbrev pub IsListed : List ℕ → ℕ → Type 0
 IsListed fails calls = Contains fails (next_count calls)

@@ -35,7 +35,14 @@ fn main(rt: HostRuntime) -> ExitCode {
     let mut notes = StdSink::new(rt.stderr());
     let mut order = NeverFailsSink::new();
     let status = match words(&rt) {
-        Ok(words) => hybrid(rt.alloc(), &words, &mut files, &mut out, &mut notes, &mut order),
+        Ok(words) => hybrid(
+            rt.alloc(),
+            &words,
+            &mut files,
+            &mut out,
+            &mut notes,
+            &mut order,
+        ),
         Err(NoMemory) => Status::NoMemory,
     };
     ExitCode::from(status.code())

@@ -12,7 +12,7 @@ use Rattle.hyb_outside.proofs.Emits.{share_of-append, emits_idle}
 use Rattle.f77_ast.specs.declared.program.Program.{Program}
 use Rattle.f77_ast.specs.declared.refusal.Refusal.{Refusal}
 use Rattle.f77_meaning.specs.Run.{Run, End, Ended, Faulted, Spent, sequential_run}
-use Rattle.hybrid_top.specs.Answer.{Answer, stops, status_of, ran, IsAnswer, usage, read_fault, no_memory, program_limit, refused, input_limit, schedule_limit, run, line_piece, status_pieces, pieces_of, Gives, whole, cut, Answered}
+use Rattle.hybrid_top.specs.Answer.{Answer, stops, status_of, ran, IsAnswer, usage, program_fault, input_fault, schedule_fault, no_memory, program_limit, refused, input_limit, schedule_limit, run, line_piece, status_pieces, pieces_of, Gives, whole, cut, Answered}
 use Rattle.hybrid_top.specs.Causes.{NoneFailed, IsOrYields, Tells, TellsMore, FileLimitComes, IsFile, FileLimitOnly, RefusedComes, RefusedOnly, lines_text, is_of_run, IsRun, RunOnly, RunComes, RunCompletes, is_before_run}
 use Rattle.hybrid_top.specs.Command.{RunRequest}
 use Rattle.hybrid_top.specs.FirstForm.{front_of}
@@ -55,6 +55,11 @@ whole_not_more content bytes (more, told, long) w = let same : more ≡ bytes = 
 long_not_told : (old : FilesSeen) (name told : List ℕ) → Tells old name told → IsTooLong (old.content name) → ⊥
 long_not_told old name told t long = let more : file_limit < length told = rw t.content at long in let short = t.within in omega arith
 
+-- a program that was read to its end, or without a fault, has no fault
+no_program_fault : (old new : FilesSeen) → Rose old.faults new.faults → new.ends ≡ old.ends → (NoneFailed old new) ⊎ (old.ends < new.ends) → ⊥
+no_program_fault old new rose same (inl none) = none rose
+no_program_fault old new rose same (inr more) = omega arith
+
 -- what a status of a run rests on
 pub record RanBy (request : Option RunRequest) (old : FilesSeen) (a : Answer) : Type 0 where
   pub asked : RunRequest
@@ -65,6 +70,8 @@ pub record RanBy (request : Option RunRequest) (old : FilesSeen) (a : Answer) : 
   pub program_is : IsWhole (old.content asked.program) bytes
   pub accepted : front_of bytes ≡ Ok program
   pub input_is : IsWhole (old.content asked.input) input
+  pub schedule : List ℕ
+  pub schedule_is : IsWhole (old.content asked.schedule) schedule
   pub is : a ≡ ran (sequential_run program input asked.steps)
 
 -- a command gives an answer
@@ -74,7 +81,9 @@ answered q f g a result old new i v = record { answer = a; is_answer = i; gives 
 -- Usage comes only where the words fit no row
 pub usage_only : (old new : FilesSeen) (q : Option RunRequest) (a : Answer) → IsAnswer old new q a → a.status ≡ status.Usage → q ≡ None
 usage_only old new q a (usage n e) u = n
-usage_only old new q a (read_fault r n rose e) u = absurd (let x : status.ReadFault ≡ status.Usage = sym (status_is a status.ReadFault e) ∙ u in cc)
+usage_only old new q a (program_fault r n rose same e) u = absurd (let x : status.ReadFault ≡ status.Usage = sym (status_is a status.ReadFault e) ∙ u in cc)
+usage_only old new q a (input_fault r bytes program n w f rose ended e) u = absurd (let x : status.ReadFault ≡ status.Usage = sym (status_is a status.ReadFault e) ∙ u in cc)
+usage_only old new q a (schedule_fault r bytes program input n w f i rose ended e) u = absurd (let x : status.ReadFault ≡ status.Usage = sym (status_is a status.ReadFault e) ∙ u in cc)
 usage_only old new q a (no_memory r n e) u = absurd (let x : status.NoMemory ≡ status.Usage = sym (status_is a status.NoMemory e) ∙ u in cc)
 usage_only old new q a (program_limit r n long e) u = absurd (let x : (status.FileLimit 1) ≡ status.Usage = sym (status_is a (status.FileLimit 1) e) ∙ u in cc)
 usage_only old new q a (refused r bytes refusal n w f e) u = absurd (let x : (status.Refused refusal) ≡ status.Usage = sym (status_is a (status.Refused refusal) e) ∙ u in cc)
@@ -85,7 +94,9 @@ usage_only old new q a (run r bytes program input schedule n w f i s e) u = absu
 -- where the words fit no row, it comes
 pub usage_is : (old new : FilesSeen) (q : Option RunRequest) (a : Answer) → IsAnswer old new q a → q ≡ None → a.status ≡ status.Usage
 usage_is old new q a (usage n e) u = status_is a status.Usage e
-usage_is old new q a (read_fault r n rose e) u = absurd (let x : Some r ≡ None = sym n ∙ u in cc)
+usage_is old new q a (program_fault r n rose same e) u = absurd (let x : Some r ≡ None = sym n ∙ u in cc)
+usage_is old new q a (input_fault r bytes program n w f rose ended e) u = absurd (let x : Some r ≡ None = sym n ∙ u in cc)
+usage_is old new q a (schedule_fault r bytes program input n w f i rose ended e) u = absurd (let x : Some r ≡ None = sym n ∙ u in cc)
 usage_is old new q a (no_memory r n e) u = absurd (let x : Some r ≡ None = sym n ∙ u in cc)
 usage_is old new q a (program_limit r n long e) u = absurd (let x : Some r ≡ None = sym n ∙ u in cc)
 usage_is old new q a (refused r bytes refusal n w f e) u = absurd (let x : Some r ≡ None = sym n ∙ u in cc)
@@ -96,7 +107,9 @@ usage_is old new q a (run r bytes program input schedule n w f i s e) u = absurd
 -- ReadFault comes only where the count rose
 pub read_fault_only : (old new : FilesSeen) (q : Option RunRequest) (a : Answer) → IsAnswer old new q a → a.status ≡ status.ReadFault → Rose old.faults new.faults
 read_fault_only old new q a (usage n e) u = absurd (let x : status.Usage ≡ status.ReadFault = sym (status_is a status.Usage e) ∙ u in cc)
-read_fault_only old new q a (read_fault r n rose e) u = rose
+read_fault_only old new q a (program_fault r n rose same e) u = rose
+read_fault_only old new q a (input_fault r bytes program n w f rose ended e) u = rose
+read_fault_only old new q a (schedule_fault r bytes program input n w f i rose ended e) u = rose
 read_fault_only old new q a (no_memory r n e) u = absurd (let x : status.NoMemory ≡ status.ReadFault = sym (status_is a status.NoMemory e) ∙ u in cc)
 read_fault_only old new q a (program_limit r n long e) u = absurd (let x : (status.FileLimit 1) ≡ status.ReadFault = sym (status_is a (status.FileLimit 1) e) ∙ u in cc)
 read_fault_only old new q a (refused r bytes refusal n w f e) u = absurd (let x : (status.Refused refusal) ≡ status.ReadFault = sym (status_is a (status.Refused refusal) e) ∙ u in cc)
@@ -107,7 +120,9 @@ read_fault_only old new q a (run r bytes program input schedule n w f i s e) u =
 -- a FileLimit names a file that has too many bytes
 pub file_limit_only : (old new : FilesSeen) (q : Option RunRequest) (a : Answer) → IsAnswer old new q a → (k : ℕ) → a.status ≡ status.FileLimit k → (r : RunRequest) × (name : List ℕ) × (q ≡ Some r) × IsFile r k name × IsTooLong (old.content name)
 file_limit_only old new q a (usage n e) k u = absurd (let x : status.Usage ≡ status.FileLimit k = sym (status_is a status.Usage e) ∙ u in cc)
-file_limit_only old new q a (read_fault r n rose e) k u = absurd (let x : status.ReadFault ≡ status.FileLimit k = sym (status_is a status.ReadFault e) ∙ u in cc)
+file_limit_only old new q a (program_fault r n rose same e) k u = absurd (let x : status.ReadFault ≡ status.FileLimit k = sym (status_is a status.ReadFault e) ∙ u in cc)
+file_limit_only old new q a (input_fault r bytes program n w f rose ended e) k u = absurd (let x : status.ReadFault ≡ status.FileLimit k = sym (status_is a status.ReadFault e) ∙ u in cc)
+file_limit_only old new q a (schedule_fault r bytes program input n w f i rose ended e) k u = absurd (let x : status.ReadFault ≡ status.FileLimit k = sym (status_is a status.ReadFault e) ∙ u in cc)
 file_limit_only old new q a (no_memory r n e) k u = absurd (let x : status.NoMemory ≡ status.FileLimit k = sym (status_is a status.NoMemory e) ∙ u in cc)
 file_limit_only old new q a (program_limit r n long e) k u = (r, r.program, n, inl (let x : status.FileLimit k ≡ status.FileLimit 1 = sym u ∙ status_is a (status.FileLimit 1) e in cc, refl), long)
 file_limit_only old new q a (refused r bytes refusal n w f e) k u = absurd (let x : (status.Refused refusal) ≡ status.FileLimit k = sym (status_is a (status.Refused refusal) e) ∙ u in cc)
@@ -118,7 +133,9 @@ file_limit_only old new q a (run r bytes program input schedule n w f i s e) k u
 -- a Refused is the first refusal of the program
 pub refused_only : (old new : FilesSeen) (q : Option RunRequest) (a : Answer) → IsAnswer old new q a → (found : Refusal) → a.status ≡ status.Refused found → (r : RunRequest) × (bytes : List ℕ) × (q ≡ Some r) × IsWhole (old.content r.program) bytes × (front_of bytes ≡ Err found)
 refused_only old new q a (usage n e) found u = absurd (let x : status.Usage ≡ status.Refused found = sym (status_is a status.Usage e) ∙ u in cc)
-refused_only old new q a (read_fault r n rose e) found u = absurd (let x : status.ReadFault ≡ status.Refused found = sym (status_is a status.ReadFault e) ∙ u in cc)
+refused_only old new q a (program_fault r n rose same e) found u = absurd (let x : status.ReadFault ≡ status.Refused found = sym (status_is a status.ReadFault e) ∙ u in cc)
+refused_only old new q a (input_fault r bytes program n w f rose ended e) found u = absurd (let x : status.ReadFault ≡ status.Refused found = sym (status_is a status.ReadFault e) ∙ u in cc)
+refused_only old new q a (schedule_fault r bytes program input n w f i rose ended e) found u = absurd (let x : status.ReadFault ≡ status.Refused found = sym (status_is a status.ReadFault e) ∙ u in cc)
 refused_only old new q a (no_memory r n e) found u = absurd (let x : status.NoMemory ≡ status.Refused found = sym (status_is a status.NoMemory e) ∙ u in cc)
 refused_only old new q a (program_limit r n long e) found u = absurd (let x : (status.FileLimit 1) ≡ status.Refused found = sym (status_is a (status.FileLimit 1) e) ∙ u in cc)
 refused_only old new q a (refused r bytes refusal n w f e) found u = (r, bytes, n, w, (let x : status.Refused found ≡ status.Refused refusal = sym u ∙ status_is a (status.Refused refusal) e in let y : found ≡ refusal = cc in rw y f))
@@ -129,7 +146,9 @@ refused_only old new q a (run r bytes program input schedule n w f i s e) found 
 -- no answer is a fault of writing
 pub never_write : (old new : FilesSeen) (q : Option RunRequest) (a : Answer) → IsAnswer old new q a → a.status ≢ status.WriteFault
 never_write old new q a (usage n e) u = let x : status.Usage ≡ status.WriteFault = sym (status_is a status.Usage e) ∙ u in cc
-never_write old new q a (read_fault r n rose e) u = let x : status.ReadFault ≡ status.WriteFault = sym (status_is a status.ReadFault e) ∙ u in cc
+never_write old new q a (program_fault r n rose same e) u = let x : status.ReadFault ≡ status.WriteFault = sym (status_is a status.ReadFault e) ∙ u in cc
+never_write old new q a (input_fault r bytes program n w f rose ended e) u = let x : status.ReadFault ≡ status.WriteFault = sym (status_is a status.ReadFault e) ∙ u in cc
+never_write old new q a (schedule_fault r bytes program input n w f i rose ended e) u = let x : status.ReadFault ≡ status.WriteFault = sym (status_is a status.ReadFault e) ∙ u in cc
 never_write old new q a (no_memory r n e) u = let x : status.NoMemory ≡ status.WriteFault = sym (status_is a status.NoMemory e) ∙ u in cc
 never_write old new q a (program_limit r n long e) u = let x : (status.FileLimit 1) ≡ status.WriteFault = sym (status_is a (status.FileLimit 1) e) ∙ u in cc
 never_write old new q a (refused r bytes refusal n w f e) u = let x : (status.Refused refusal) ≡ status.WriteFault = sym (status_is a (status.Refused refusal) e) ∙ u in cc
@@ -140,7 +159,9 @@ never_write old new q a (run r bytes program input schedule n w f i s e) u = not
 -- no answer is of the schedule's form
 pub never_schedule : (old new : FilesSeen) (q : Option RunRequest) (a : Answer) → IsAnswer old new q a → (line : ℕ) → a.status ≢ status.BadSchedule line
 never_schedule old new q a (usage n e) line u = let x : status.Usage ≡ status.BadSchedule line = sym (status_is a status.Usage e) ∙ u in cc
-never_schedule old new q a (read_fault r n rose e) line u = let x : status.ReadFault ≡ status.BadSchedule line = sym (status_is a status.ReadFault e) ∙ u in cc
+never_schedule old new q a (program_fault r n rose same e) line u = let x : status.ReadFault ≡ status.BadSchedule line = sym (status_is a status.ReadFault e) ∙ u in cc
+never_schedule old new q a (input_fault r bytes program n w f rose ended e) line u = let x : status.ReadFault ≡ status.BadSchedule line = sym (status_is a status.ReadFault e) ∙ u in cc
+never_schedule old new q a (schedule_fault r bytes program input n w f i rose ended e) line u = let x : status.ReadFault ≡ status.BadSchedule line = sym (status_is a status.ReadFault e) ∙ u in cc
 never_schedule old new q a (no_memory r n e) line u = let x : status.NoMemory ≡ status.BadSchedule line = sym (status_is a status.NoMemory e) ∙ u in cc
 never_schedule old new q a (program_limit r n long e) line u = let x : (status.FileLimit 1) ≡ status.BadSchedule line = sym (status_is a (status.FileLimit 1) e) ∙ u in cc
 never_schedule old new q a (refused r bytes refusal n w f e) line u = let x : (status.Refused refusal) ≡ status.BadSchedule line = sym (status_is a (status.Refused refusal) e) ∙ u in cc
@@ -151,7 +172,9 @@ never_schedule old new q a (run r bytes program input schedule n w f i s e) line
 -- before the first step no line is printed
 pub no_lines : (old new : FilesSeen) (q : Option RunRequest) (a : Answer) → IsAnswer old new q a → is_before_run a.status ≡ true → a.lines ≡ []
 no_lines old new q a (usage n e) u = lines_are a status.Usage e
-no_lines old new q a (read_fault r n rose e) u = lines_are a status.ReadFault e
+no_lines old new q a (program_fault r n rose same e) u = lines_are a status.ReadFault e
+no_lines old new q a (input_fault r bytes program n w f rose ended e) u = lines_are a status.ReadFault e
+no_lines old new q a (schedule_fault r bytes program input n w f i rose ended e) u = lines_are a status.ReadFault e
 no_lines old new q a (no_memory r n e) u = lines_are a status.NoMemory e
 no_lines old new q a (program_limit r n long e) u = lines_are a (status.FileLimit 1) e
 no_lines old new q a (refused r bytes refusal n w f e) u = lines_are a (status.Refused refusal) e
@@ -162,18 +185,22 @@ no_lines old new q a (run r bytes program input schedule n w f i s e) u = absurd
 -- a status of a run is that of the sequential run
 pub run_only : (old new : FilesSeen) (q : Option RunRequest) (a : Answer) → IsAnswer old new q a → is_of_run a.status ≡ true → RanBy q old a
 run_only old new q a (usage n e) u = absurd (let x : is_of_run status.Usage ≡ true = sym (ap is_of_run (status_is a status.Usage e)) ∙ u in let y : false ≡ true = x in cc)
-run_only old new q a (read_fault r n rose e) u = absurd (let x : is_of_run status.ReadFault ≡ true = sym (ap is_of_run (status_is a status.ReadFault e)) ∙ u in let y : false ≡ true = x in cc)
+run_only old new q a (program_fault r n rose same e) u = absurd (let x : is_of_run status.ReadFault ≡ true = sym (ap is_of_run (status_is a status.ReadFault e)) ∙ u in let y : false ≡ true = x in cc)
+run_only old new q a (input_fault r bytes program n w f rose ended e) u = absurd (let x : is_of_run status.ReadFault ≡ true = sym (ap is_of_run (status_is a status.ReadFault e)) ∙ u in let y : false ≡ true = x in cc)
+run_only old new q a (schedule_fault r bytes program input n w f i rose ended e) u = absurd (let x : is_of_run status.ReadFault ≡ true = sym (ap is_of_run (status_is a status.ReadFault e)) ∙ u in let y : false ≡ true = x in cc)
 run_only old new q a (no_memory r n e) u = absurd (let x : is_of_run status.NoMemory ≡ true = sym (ap is_of_run (status_is a status.NoMemory e)) ∙ u in let y : false ≡ true = x in cc)
 run_only old new q a (program_limit r n long e) u = absurd (let x : is_of_run (status.FileLimit 1) ≡ true = sym (ap is_of_run (status_is a (status.FileLimit 1) e)) ∙ u in let y : false ≡ true = x in cc)
 run_only old new q a (refused r bytes refusal n w f e) u = absurd (let x : is_of_run (status.Refused refusal) ≡ true = sym (ap is_of_run (status_is a (status.Refused refusal) e)) ∙ u in let y : false ≡ true = x in cc)
 run_only old new q a (input_limit r bytes program n w f long e) u = absurd (let x : is_of_run (status.FileLimit 2) ≡ true = sym (ap is_of_run (status_is a (status.FileLimit 2) e)) ∙ u in let y : false ≡ true = x in cc)
 run_only old new q a (schedule_limit r bytes program input n w f i long e) u = absurd (let x : is_of_run (status.FileLimit 3) ≡ true = sym (ap is_of_run (status_is a (status.FileLimit 3) e)) ∙ u in let y : false ≡ true = x in cc)
-run_only old new q a (run r bytes program input schedule n w f i s e) u = record { asked = r; bytes = bytes; program = program; input = input; request_is = n; program_is = w; accepted = f; input_is = i; is = e }
+run_only old new q a (run r bytes program input schedule n w f i s e) u = record { asked = r; bytes = bytes; program = program; input = input; request_is = n; program_is = w; accepted = f; input_is = i; schedule = schedule; schedule_is = s; is = e }
 
 -- the program is told to have too many bytes
 pub program_limit_comes : (old new : FilesSeen) (q : Option RunRequest) (a : Answer) (asked : RunRequest) → q ≡ Some asked → NoneFailed old new → TellsMore old asked.program → IsAnswer old new q a → (a.status ≡ status.FileLimit 1) ⊎ (a.status ≡ status.NoMemory)
 program_limit_comes old new q a asked g none more (usage n e) = absurd (let x : None ≡ Some asked = sym n ∙ g in cc)
-program_limit_comes old new q a asked g none more (read_fault r n rose e) = absurd (none rose)
+program_limit_comes old new q a asked g none more (program_fault r n rose same e) = absurd (none rose)
+program_limit_comes old new q a asked g none more (input_fault r bytes program n w f rose ended e) = absurd (none rose)
+program_limit_comes old new q a asked g none more (schedule_fault r bytes program input n w f i rose ended e) = absurd (none rose)
 program_limit_comes old new q a asked g none more (no_memory r n e) = inr (status_is a status.NoMemory e)
 program_limit_comes old new q a asked g none more (program_limit r n long e) = inl (status_is a (status.FileLimit 1) e)
 program_limit_comes old new q a asked g none more (refused r bytes refusal n w f e) = let same : r ≡ asked = let x : Some r ≡ Some asked = sym n ∙ g in cc in absurd (whole_not_more (old.content asked.program) bytes more (rw same at w))
@@ -182,9 +209,11 @@ program_limit_comes old new q a asked g none more (schedule_limit r bytes progra
 program_limit_comes old new q a asked g none more (run r bytes program input schedule n w f i s e) = let same : r ≡ asked = let x : Some r ≡ Some asked = sym n ∙ g in cc in absurd (whole_not_more (old.content asked.program) bytes more (rw same at w))
 
 -- the program is told and isn't accepted
-pub refused_comes : (old new : FilesSeen) (q : Option RunRequest) (a : Answer) (asked : RunRequest) → q ≡ Some asked → NoneFailed old new → (told : List ℕ) (found : Refusal) → Tells old asked.program told → front_of told ≡ Err found → IsAnswer old new q a → (a.status ≡ status.Refused found) ⊎ (a.status ≡ status.NoMemory)
+pub refused_comes : (old new : FilesSeen) (q : Option RunRequest) (a : Answer) (asked : RunRequest) → q ≡ Some asked → NoneFailed old new ⊎ (old.ends < new.ends) → (told : List ℕ) (found : Refusal) → Tells old asked.program told → front_of told ≡ Err found → IsAnswer old new q a → (a.status ≡ status.Refused found) ⊎ (a.status ≡ status.NoMemory)
 refused_comes old new q a asked g none told found t is (usage n e) = absurd (let x : None ≡ Some asked = sym n ∙ g in cc)
-refused_comes old new q a asked g none told found t is (read_fault r n rose e) = absurd (none rose)
+refused_comes old new q a asked g none told found t is (program_fault r n rose same e) = absurd (no_program_fault old new rose same none)
+refused_comes old new q a asked g none told found t is (input_fault r bytes program n w f rose ended e) = let same : r ≡ asked = let x : Some r ≡ Some asked = sym n ∙ g in cc in absurd (let b : told ≡ bytes = whole_told old asked.program told bytes t (rw same at w) in let x : Err found ≡ Ok program = sym is ∙ ap front_of b ∙ f in cc)
+refused_comes old new q a asked g none told found t is (schedule_fault r bytes program input n w f i rose ended e) = let same : r ≡ asked = let x : Some r ≡ Some asked = sym n ∙ g in cc in absurd (let b : told ≡ bytes = whole_told old asked.program told bytes t (rw same at w) in let x : Err found ≡ Ok program = sym is ∙ ap front_of b ∙ f in cc)
 refused_comes old new q a asked g none told found t is (no_memory r n e) = inr (status_is a status.NoMemory e)
 refused_comes old new q a asked g none told found t is (program_limit r n long e) = let same : r ≡ asked = let x : Some r ≡ Some asked = sym n ∙ g in cc in absurd (long_not_told old asked.program told t (rw same at long))
 refused_comes old new q a asked g none told found t is (refused r bytes refusal n w f e) = let same : r ≡ asked = let x : Some r ≡ Some asked = sym n ∙ g in cc in let b : told ≡ bytes = whole_told old asked.program told bytes t (rw same at w) in let x : Err found ≡ Err refusal = sym is ∙ ap front_of b ∙ f in let y : refusal ≡ found = cc in inl (status_is a (status.Refused refusal) e ∙ ap status.Refused y)
@@ -195,7 +224,9 @@ refused_comes old new q a asked g none told found t is (run r bytes program inpu
 -- the input is told to have too many bytes
 pub input_limit_comes : (old new : FilesSeen) (q : Option RunRequest) (a : Answer) (asked : RunRequest) → q ≡ Some asked → NoneFailed old new → (told : List ℕ) (made : Program) → Tells old asked.program told → front_of told ≡ Ok made → TellsMore old asked.input → IsAnswer old new q a → (a.status ≡ status.FileLimit 2) ⊎ (a.status ≡ status.NoMemory)
 input_limit_comes old new q a asked g none told made t is more (usage n e) = absurd (let x : None ≡ Some asked = sym n ∙ g in cc)
-input_limit_comes old new q a asked g none told made t is more (read_fault r n rose e) = absurd (none rose)
+input_limit_comes old new q a asked g none told made t is more (program_fault r n rose same e) = absurd (none rose)
+input_limit_comes old new q a asked g none told made t is more (input_fault r bytes program n w f rose ended e) = absurd (none rose)
+input_limit_comes old new q a asked g none told made t is more (schedule_fault r bytes program input n w f i rose ended e) = absurd (none rose)
 input_limit_comes old new q a asked g none told made t is more (no_memory r n e) = inr (status_is a status.NoMemory e)
 input_limit_comes old new q a asked g none told made t is more (program_limit r n long e) = let same : r ≡ asked = let x : Some r ≡ Some asked = sym n ∙ g in cc in absurd (long_not_told old asked.program told t (rw same at long))
 input_limit_comes old new q a asked g none told made t is more (refused r bytes refusal n w f e) = let same : r ≡ asked = let x : Some r ≡ Some asked = sym n ∙ g in cc in absurd (let b : told ≡ bytes = whole_told old asked.program told bytes t (rw same at w) in let x : Ok made ≡ Err refusal = sym is ∙ ap front_of b ∙ f in cc)
@@ -206,7 +237,9 @@ input_limit_comes old new q a asked g none told made t is more (run r bytes prog
 -- the schedule is told to have too many bytes
 pub schedule_limit_comes : (old new : FilesSeen) (q : Option RunRequest) (a : Answer) (asked : RunRequest) → q ≡ Some asked → NoneFailed old new → (told : List ℕ) (made : Program) (read : List ℕ) → Tells old asked.program told → front_of told ≡ Ok made → Tells old asked.input read → TellsMore old asked.schedule → IsAnswer old new q a → (a.status ≡ status.FileLimit 3) ⊎ (a.status ≡ status.NoMemory)
 schedule_limit_comes old new q a asked g none told made read t is y more (usage n e) = absurd (let x : None ≡ Some asked = sym n ∙ g in cc)
-schedule_limit_comes old new q a asked g none told made read t is y more (read_fault r n rose e) = absurd (none rose)
+schedule_limit_comes old new q a asked g none told made read t is y more (program_fault r n rose same e) = absurd (none rose)
+schedule_limit_comes old new q a asked g none told made read t is y more (input_fault r bytes program n w f rose ended e) = absurd (none rose)
+schedule_limit_comes old new q a asked g none told made read t is y more (schedule_fault r bytes program input n w f i rose ended e) = absurd (none rose)
 schedule_limit_comes old new q a asked g none told made read t is y more (no_memory r n e) = inr (status_is a status.NoMemory e)
 schedule_limit_comes old new q a asked g none told made read t is y more (program_limit r n long e) = let same : r ≡ asked = let x : Some r ≡ Some asked = sym n ∙ g in cc in absurd (long_not_told old asked.program told t (rw same at long))
 schedule_limit_comes old new q a asked g none told made read t is y more (refused r bytes refusal n w f e) = let same : r ≡ asked = let x : Some r ≡ Some asked = sym n ∙ g in cc in absurd (let b : told ≡ bytes = whole_told old asked.program told bytes t (rw same at w) in let x : Ok made ≡ Err refusal = sym is ∙ ap front_of b ∙ f in cc)
@@ -217,7 +250,9 @@ schedule_limit_comes old new q a asked g none told made read t is y more (run r 
 -- all is told: the run's end
 pub run_comes : (old new : FilesSeen) (q : Option RunRequest) (a : Answer) (asked : RunRequest) → q ≡ Some asked → NoneFailed old new → (told : List ℕ) (made : Program) (read seen : List ℕ) → Tells old asked.program told → front_of told ≡ Ok made → Tells old asked.input read → Tells old asked.schedule seen → IsAnswer old new q a → (a.status ≡ status_of (sequential_run made read asked.steps).end) ⊎ (a.status ≡ status.NoMemory)
 run_comes old new q a asked g none told made read seen t is y z (usage n e) = absurd (let x : None ≡ Some asked = sym n ∙ g in cc)
-run_comes old new q a asked g none told made read seen t is y z (read_fault r n rose e) = absurd (none rose)
+run_comes old new q a asked g none told made read seen t is y z (program_fault r n rose same e) = absurd (none rose)
+run_comes old new q a asked g none told made read seen t is y z (input_fault r bytes program n w f rose ended e) = absurd (none rose)
+run_comes old new q a asked g none told made read seen t is y z (schedule_fault r bytes program input n w f i rose ended e) = absurd (none rose)
 run_comes old new q a asked g none told made read seen t is y z (no_memory r n e) = inr (status_is a status.NoMemory e)
 run_comes old new q a asked g none told made read seen t is y z (program_limit r n long e) = let same : r ≡ asked = let x : Some r ≡ Some asked = sym n ∙ g in cc in absurd (long_not_told old asked.program told t (rw same at long))
 run_comes old new q a asked g none told made read seen t is y z (refused r bytes refusal n w f e) = let same : r ≡ asked = let x : Some r ≡ Some asked = sym n ∙ g in cc in absurd (let b : told ≡ bytes = whole_told old asked.program told bytes t (rw same at w) in let x : Ok made ≡ Err refusal = sym is ∙ ap front_of b ∙ f in cc)
@@ -331,7 +366,7 @@ run_is q f a result old new r g n =
     let s : result ≡ a.status = gives_status a result old new g n in
     let t : Takes (share_of Out (pieces_of a)) (old Out) (new Out) = whole_takes a result old new g n Out in
     let l : share_of Out (pieces_of a) ≡ lines_text (sequential_run r.program r.input r.asked.steps).lines = share_out a ∙ ap (λ (b : Answer). lines_text b.lines) r.is in
-    record { asked = r.asked; bytes = r.bytes; program = r.program; input = r.input; request_is = r.request_is; program_is = r.program_is; accepted = r.accepted; input_is = r.input_is; status = s ∙ ran_status a (sequential_run r.program r.input r.asked.steps) r.is; lines = rw l at t }
+    record { asked = r.asked; bytes = r.bytes; program = r.program; input = r.input; request_is = r.request_is; program_is = r.program_is; accepted = r.accepted; input_is = r.input_is; schedule = r.schedule; schedule_is = r.schedule_is; status = s ∙ ran_status a (sequential_run r.program r.input r.asked.steps) r.is; lines = rw l at t }
 
 pub row_run_only : (q : Option RunRequest) (f g : FilesSeen) (result : Status) (old new : To → Seen) → Answered q f g result old new → RunOnly q f result (old Out) (new Out)
 row_run_only q f g result old new c u =

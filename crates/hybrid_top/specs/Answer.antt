@@ -1,6 +1,6 @@
 -- What a command answers: a status and the lines that it prints, by what its files hold.
 use Rattle.std.specs.Prelude.{◌≡◌, ℕ, List, [], ◌∷◌, ◌++◌, map, Option, None, Some, Ok, Err}
-use Rattle.hyb_base.specs.Count.{Rose}
+use Rattle.hyb_base.specs.Count.{next_count, Rose}
 use Rattle.hyb_outside.specs.declared.pieces.To.{To}
 use Rattle.hyb_outside.specs.declared.pieces.To.TheVariants.{Out, Notes}
 use Rattle.hyb_outside.specs.FilesSeen.{FilesSeen}
@@ -40,8 +40,12 @@ ran run = record { lines = run.lines; status = status_of run.end }
 pub data IsAnswer (old new : FilesSeen) (request : Option RunRequest) (answer : Answer) : Type 0 where
   -- the words fit no row of the command table
   usage : request ≡ None → answer ≡ stops status.Usage → IsAnswer old new request answer
-  -- a read failed
-  read_fault : (r : RunRequest) → request ≡ Some r → Rose old.faults new.faults → answer ≡ stops status.ReadFault → IsAnswer old new request answer
+  -- a read of the program failed, and no file was read to its end
+  program_fault : (r : RunRequest) → request ≡ Some r → Rose old.faults new.faults → new.ends ≡ old.ends → answer ≡ stops status.ReadFault → IsAnswer old new request answer
+  -- the program is accepted, and a read of the input failed: one file was read to its end
+  input_fault : (r : RunRequest) (bytes : List ℕ) (program : Program) → request ≡ Some r → IsWhole (old.content r.program) bytes → front_of bytes ≡ Ok program → Rose old.faults new.faults → new.ends ≡ next_count old.ends → answer ≡ stops status.ReadFault → IsAnswer old new request answer
+  -- the program is accepted, the input is read, and a read of the schedule failed: two files were read to their ends
+  schedule_fault : (r : RunRequest) (bytes : List ℕ) (program : Program) (input : List ℕ) → request ≡ Some r → IsWhole (old.content r.program) bytes → front_of bytes ≡ Ok program → IsWhole (old.content r.input) input → Rose old.faults new.faults → new.ends ≡ next_count (next_count old.ends) → answer ≡ stops status.ReadFault → IsAnswer old new request answer
   -- no memory was to be had before the first step
   no_memory : (r : RunRequest) → request ≡ Some r → answer ≡ stops status.NoMemory → IsAnswer old new request answer
   -- the program has more bytes than a file may have

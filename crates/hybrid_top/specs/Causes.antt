@@ -1,4 +1,4 @@
--- When each answer of a command comes: one word for each row of the table of causes.
+-- When each answer of a command comes: what it rests on (`Only`), and when it has to come (`Comes`).
 use Rattle.std.specs.Prelude.{◌≡◌, ℕ, ◌+◌, ◌-◌, ◌^◌, ◌≤◌, ◌<◌, min, Bool, true, false, List, length, map, Option, Some, Ok, Err, ◌⊎◌}
 use Rattle.hyb_base.specs.Count.{Rose}
 use Rattle.hyb_outside.specs.declared.pieces.To.{To}
@@ -47,9 +47,9 @@ IsFile r file name = ((file ≡ 1) × (name ≡ r.program)) ⊎ (((file ≡ 2) �
 abbrev pub FileLimitOnly : Option RunRequest → FilesSeen → Status → Type 0
 FileLimitOnly request old result = (file : ℕ) → result ≡ status.FileLimit file → (r : RunRequest) × (name : List ℕ) × (request ≡ Some r) × IsFile r file name × IsTooLong (old.content name)
 
--- the program is told and isn't accepted: what is answered
+-- the program is told and isn't accepted: what is answered, where no read failed or the program was read to its end
 abbrev pub RefusedComes : Option RunRequest → FilesSeen → FilesSeen → Status → Type 0
-RefusedComes request old new result = (r : RunRequest) (bytes : List ℕ) (refusal : Refusal) → request ≡ Some r → NoneFailed old new → Tells old r.program bytes → front_of bytes ≡ Err refusal → IsOrYields result (status.Refused refusal)
+RefusedComes request old new result = (r : RunRequest) (bytes : List ℕ) (refusal : Refusal) → request ≡ Some r → NoneFailed old new ⊎ (old.ends < new.ends) → Tells old r.program bytes → front_of bytes ≡ Err refusal → IsOrYields result (status.Refused refusal)
 
 -- a Refused has its program, whose first refusal it is
 abbrev pub RefusedOnly : Option RunRequest → FilesSeen → Status → Type 0
@@ -76,6 +76,8 @@ pub record IsRun (request : Option RunRequest) (old : FilesSeen) (result : Statu
   pub program_is : IsWhole (old.content asked.program) bytes
   pub accepted : front_of bytes ≡ Ok program
   pub input_is : IsWhole (old.content asked.input) input
+  pub schedule : List ℕ
+  pub schedule_is : IsWhole (old.content asked.schedule) schedule
   pub status : result ≡ status_of (sequential_run program input asked.steps).end
   pub lines : Takes (lines_text (sequential_run program input asked.steps).lines) out_old out_new
 

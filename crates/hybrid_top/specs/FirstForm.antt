@@ -1,4 +1,4 @@
--- Which files are programs so far: the file is one END line. Every other line is refused until its statement is built.
+-- Which files are programs so far (sections are those of ANSI X3.9-1978): the file is one END line. Every other line is refused until its statement is built.
 use Rattle.std.specs.Prelude.{ℕ, zero, suc, ◌+◌, max, Bool, true, false, not, ◌&&◌, ◌==◌, nat_le, List, [], ◌∷◌, length, take, drop, filter, codes, Option, None, Some, Result, Ok, Err, if◌then◌else◌}
 use Rattle.std.specs.List.{list_all, list_any}
 use Rattle.std.specs.Str.{bytes_eq}

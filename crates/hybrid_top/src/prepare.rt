@@ -31,7 +31,7 @@ pub struct Prepared {
 fn read<F: Files>(alloc: Global, name: &[u8], file: u8, files: &mut F) -> Result<Bytes, Status>
     requires { IsTrue ((F.seen files.old).may_read name.now) }
     ensures whole { IfOk result (IsWhole ((F.seen files.old).content name.now)) }
-    ensures ends { OnOk result (next_count (F.seen files.old).ends ≤ (F.seen files.new).ends) }
+    ensures end { OnOk result ((F.seen files.new).ends ≡ next_count (F.seen files.old).ends) }
     ensures stops { IfErr result (ReadStops file ((F.seen files.old).content name.now) (F.seen files.old) (F.seen files.new)) }
     ensures keeps { Keeps (F.seen files.old) (F.seen files.new) }
 {
@@ -67,8 +67,9 @@ pub fn prepare<F: Files>(
     requires { MayRead (F.seen files.old) (request_of command.now) }
     ensures prepared { IfOk result (λ p. IsPrepared (F.seen files.old) (request_of command.now) p.program p.input) }
     ensures stops { IfErr result (λ s. IsAnswer (F.seen files.old) (F.seen files.new) (Some (request_of command.now)) (stops s)) }
-    ensures ends { OnOk result (min ((F.seen files.old).ends + 3) (2 ^ 64 - 1) ≤ (F.seen files.new).ends) }
+    ensures ends { OnOk result ((F.seen files.new).ends ≡ next_count (next_count (next_count (F.seen files.old).ends))) }
     ensures ends_at_stop { IfErr result (λ s. EndsGiven s (F.seen files.old).ends (F.seen files.new).ends) }
+    ensures keeps { Keeps (F.seen files.old) (F.seen files.new) }
 {
     let bytes = read(alloc, command.program, 1, files)?;
     let program = accept(alloc, bytes.as_slice())?;

@@ -1,5 +1,5 @@
 //! Files that are read whole.
-ghost use Rattle.std.specs.Prelude.{◌≡◌, ◌+◌, ◌<◌, ◌≤◌, length, IfOk, OnOk, IsTrue, IsErrOf};
+ghost use Rattle.std.specs.Prelude.{◌≡◌, ◌≢◌, ◌+◌, ◌<◌, ◌≤◌, length, IfOk, OnOk, IsTrue, IsErrOf};
 ghost use Rattle.hyb_base.specs.Count.{next_count, Rose};
 ghost use Rattle.hyb_outside.specs.FilesSeen.{IsEnd};
 ghost use Rattle.hybrid_top.specs.Reading.{IsWhole, IsTooLong, Follows, Keeps};
@@ -72,7 +72,9 @@ fn read_on<F: Files>(
     ensures follows { OnOk result (Follows ((F.seen files.old).content name.now) bytes.old → Follows ((F.seen files.old).content name.now) bytes.new) }
     ensures more { IfOk result (λ given. length bytes.new ≡ length bytes.old + given) }
     ensures end { IfOk result (λ given. given ≡ 0 → IsEnd ((F.seen files.old).content name.now) (length bytes.new)) }
-    ensures ends { IfOk result (λ given. given ≡ 0 → next_count (F.seen files.old).ends ≤ (F.seen files.new).ends) }
+    ensures at_end { IfOk result (λ given. given ≡ 0 → (F.seen files.new).ends ≡ next_count (F.seen files.old).ends) }
+    ensures before_end { IfOk result (λ given. given ≢ 0 → (F.seen files.new).ends ≡ (F.seen files.old).ends) }
+    ensures no_end { IsErrOf result ReadError.Fault → (F.seen files.new).ends ≡ (F.seen files.old).ends }
     ensures fault { IsErrOf result ReadError.Fault → Rose (F.seen files.old).faults (F.seen files.new).faults }
     ensures not_too_long { IsErrOf result ReadError.TooLong → ⊥ }
     ensures keeps { Keeps (F.seen files.old) (F.seen files.new) }
@@ -90,8 +92,9 @@ fn read_on<F: Files>(
 pub fn read_file<F: Files>(alloc: Global, name: &[u8], files: &mut F) -> Result<Bytes, ReadError>
     requires { IsTrue ((F.seen files.old).may_read name.now) }
     ensures whole { IfOk result (IsWhole ((F.seen files.old).content name.now)) }
-    ensures ends { OnOk result (next_count (F.seen files.old).ends ≤ (F.seen files.new).ends) }
+    ensures end { OnOk result ((F.seen files.new).ends ≡ next_count (F.seen files.old).ends) }
     ensures fault { IsErrOf result ReadError.Fault → Rose (F.seen files.old).faults (F.seen files.new).faults }
+    ensures no_end { IsErrOf result ReadError.Fault → (F.seen files.new).ends ≡ (F.seen files.old).ends }
     ensures too_long { IsErrOf result ReadError.TooLong → IsTooLong ((F.seen files.old).content name.now) }
     ensures keeps { Keeps (F.seen files.old) (F.seen files.new) }
 {

@@ -248,17 +248,22 @@ fn failing_calls(rt: HostRuntime) -> Result<(), Fail> {
         )?
     );
 
-    // a status line that can't be written
-    let unwritten = Fails { notes: 1, ..NONE };
+    // a status line that can't be written: none is offered again
+    let unwritten = no_lines(Status::WriteFault, b"");
+    let notes = Fails { notes: 1, ..NONE };
+    assert!(rt; gives(rt.alloc(), b"run P", &END_FILES, notes, unwritten)?);
+    let refused_program: [File<'_>; 1] = [(b"P", b"      X\n")];
     assert!(rt;
         gives(
             rt.alloc(),
-            b"run P",
-            &END_FILES,
-            unwritten,
-            no_lines(Status::WriteFault, b"")
+            b"run P I S 1",
+            &refused_program,
+            notes,
+            unwritten
         )?
     );
+    let both = Fails { files: 3, ..notes };
+    assert!(rt; gives(rt.alloc(), b"run P I S 1", &END_FILES, both, unwritten)?);
     Ok(())
 }
 

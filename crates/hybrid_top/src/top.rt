@@ -8,6 +8,7 @@ ghost use Rattle.hybrid_top.specs.Answer.{stops, IsAnswer, Gives, Answered};
 ghost use Rattle.hybrid_top.specs.Causes.{FileLimitComes, FileLimitOnly, RefusedComes, RefusedOnly, RunOnly, RunComes, RunCompletes, is_before_run, EndsGiven};
 ghost use Rattle.hybrid_top.specs.Command.{command_of};
 ghost use Rattle.hybrid_top.specs.Prepared.{MayRead};
+ghost use Rattle.hybrid_top.specs.Reading.{Keeps};
 ghost use Rattle.hybrid_top.specs.StatusText.{status_text};
 
 use crate::command::command;
@@ -25,6 +26,7 @@ fn answer<F: Files>(alloc: Global, words: &Words, files: &mut F) -> Status
     requires { ForSome (command_of words.now) (MayRead (F.seen files.old)) }
     ensures is_answer { IsAnswer (F.seen files.old) (F.seen files.new) (command_of words.now) (stops result) }
     ensures ends { EndsGiven result (F.seen files.old).ends (F.seen files.new).ends }
+    ensures keeps { Keeps (F.seen files.old) (F.seen files.new) }
     ensures no_write { result ≢ Status.WriteFault }
 {
     match command(words) {
@@ -108,6 +110,9 @@ pub fn hybrid<F: Files, O: Sink, N: Sink, Q: Sink>(
     ensures notes { result ≢ Status.WriteFault → Takes (status_text result) (N.seen notes.old) (N.seen notes.new) }
     ensures order_untouched { (Q.seen order.new).taken ≡ (Q.seen order.old).taken }
     ensures ends { EndsGiven result (F.seen files.old).ends (F.seen files.new).ends }
+
+    // What the files hold and which may be asked for is as before, and no count fell.
+    ensures keeps { Keeps (F.seen files.old) (F.seen files.new) }
 {
     let status = answer(alloc, words, files);
     conclude(status, out, notes, order)

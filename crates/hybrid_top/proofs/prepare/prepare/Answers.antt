@@ -1,4 +1,6 @@
+use Rattle.std.proofs.Common.{ap, ◌∙◌}
 use Rattle.std.proofs.lemmas.Result.{err_from_is_err_and}
+use Rattle.hyb_base.specs.Count.{next_count}
 use Rattle.hybrid_top.proofs.PrepareLemmas.{program_stops, front_stops, input_stops, schedule_stops}
 use Rattle.hybrid_top.proofs.ReadLemmas.{keeps_then}
 use Rattle.hybrid_top.proofs.prepare.prepare.Goals as goal
@@ -17,11 +19,11 @@ pub returns-in_err-input-clause-stops : goal.returns-in_err-input-clause-stops
 returns-in_err-input-clause-stops g c =
     let p = err_from_is_err_and c.from_residual-in_err-input.result c.from_residual-in_err-input.ensures.1 in
     rw (p.1, p.2)
-    (input_stops _ _ _ _ _ c.as_slice.result.now c.in_ok-program.program c.read.ensures.keeps c.read-2.ensures.keeps (rw c.as_slice.ensures c.in_ok-bytes.ensures.whole) c.in_ok-program.ensures.accepted c.in_err-input.ensures.stops)
+    (input_stops _ _ _ _ _ c.as_slice.result.now c.in_ok-program.program c.read.ensures.keeps c.read-2.ensures.keeps c.in_ok-bytes.ensures.end (rw c.as_slice.ensures c.in_ok-bytes.ensures.whole) c.in_ok-program.ensures.accepted c.in_err-input.ensures.stops)
 
 pub returns-in_err-_schedule-clause-stops : goal.returns-in_err-_schedule-clause-stops
 returns-in_err-_schedule-clause-stops g c =
     let p = err_from_is_err_and c.from_residual-in_err-_schedule.result c.from_residual-in_err-_schedule.ensures.1 in
     let input = rw c.read.ensures.keeps.content at c.in_ok-input.ensures.whole in
     rw (p.1, p.2)
-    (schedule_stops _ _ _ _ _ c.as_slice.result.now c.in_ok-program.program c.in_ok-input.input (keeps_then _ _ _ c.read.ensures.keeps c.read-2.ensures.keeps) c.read-3.ensures.keeps (rw c.as_slice.ensures c.in_ok-bytes.ensures.whole) c.in_ok-program.ensures.accepted input c.in_err-_schedule.ensures.stops)
+    (schedule_stops _ _ _ _ _ c.as_slice.result.now c.in_ok-program.program c.in_ok-input.input (keeps_then _ _ _ c.read.ensures.keeps c.read-2.ensures.keeps) c.read-3.ensures.keeps (c.in_ok-input.ensures.end ∙ ap next_count c.in_ok-bytes.ensures.end) (rw c.as_slice.ensures c.in_ok-bytes.ensures.whole) c.in_ok-program.ensures.accepted input c.in_err-_schedule.ensures.stops)

@@ -1,4 +1,4 @@
-use Rattle.std.proofs.Common.{arith}
+use Rattle.std.proofs.Common.{refl, arith}
 use Rattle.hybrid_top.proofs.ReadLemmas.{follows_none, follows_whole, follows_long, keeps_same}
 use Rattle.hybrid_top.proofs.read_file.read_file.Goals as goal
 
@@ -7,6 +7,7 @@ loop-files-init g c = record {
   room = omega (arith, c.in_ok-buffer.ensures.len);
   follows = rw c.new-bytes.ensures (follows_none _);
   keeps = keeps_same _;
+  no_end = refl;
 }
 
 pub returns-then-given-eq0-clause-whole : goal.returns-then-given-eq0-clause-whole
