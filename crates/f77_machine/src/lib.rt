@@ -1,0 +1,6 @@
+//! The machine: processes that run the statements of a program, one step at a time.
+//!
+//! What a step does is a definition of `f77_meaning`: each contract here cites it.
+#![tactic(auto)]
+
+pub mod line;
