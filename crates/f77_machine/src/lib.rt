@@ -4,3 +4,4 @@
 #![tactic(auto)]
 
 pub mod line;
+pub mod store;
