@@ -1,2 +1,3 @@
 pub mod Line
 pub mod Store
+pub mod Demand

@@ -3,5 +3,6 @@
 //! What a step does is a definition of `f77_meaning`: each contract here cites it.
 #![tactic(auto)]
 
+pub mod demand;
 pub mod line;
 pub mod store;
