@@ -1,3 +1,5 @@
-pub mod Line
-pub mod Store
 pub mod Demand
+pub mod Input
+pub mod Line
+pub mod Print
+pub mod Store

@@ -4,5 +4,7 @@
 #![tactic(auto)]
 
 pub mod demand;
+pub mod input;
 pub mod line;
+mod print;
 pub mod store;
