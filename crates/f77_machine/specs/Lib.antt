@@ -2,4 +2,5 @@ pub mod Demand
 pub mod Input
 pub mod Line
 pub mod Print
+pub mod Process
 pub mod Store

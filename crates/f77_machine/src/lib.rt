@@ -7,4 +7,5 @@ pub mod demand;
 pub mod input;
 pub mod line;
 mod print;
+pub mod process;
 pub mod store;
