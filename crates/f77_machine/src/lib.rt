@@ -6,6 +6,7 @@
 pub mod demand;
 pub mod input;
 pub mod line;
+mod number;
 mod print;
 pub mod process;
 pub mod store;
