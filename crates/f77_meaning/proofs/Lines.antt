@@ -1,5 +1,5 @@
 -- The line of PRINT before a step.
-use Rattle.std.proofs.Common.{[], Option, None, Some, refl}
+use Rattle.std.proofs.Common.{◌≡◌, ℕ, List, [], Option, None, Some, refl, sym, subst}
 use Rattle.f77_ast.specs.declared.program.Listed.{Listed}
 use Rattle.f77_ast.specs.declared.program.Program.{Program}
 use Rattle.f77_ast.specs.declared.stmt.Stmt.{Stmt, Print}
@@ -7,14 +7,14 @@ use Rattle.f77_meaning.specs.Process.{Process, listed_at}
 use Rattle.f77_meaning.specs.Sound.{HoldsItems, HoldsItemsAt, IsLineOf}
 
 -- an empty line serves each statement
-pub HoldsItems-empty : (s : Stmt) → HoldsItems s []
-HoldsItems-empty (Print items) = refl
-HoldsItems-empty _ = tt
+empty_serves : (s : Stmt) → HoldsItems s []
+empty_serves (Print items) = refl
+empty_serves _ = tt
+
+empty_serves_at : (found : Option Listed) → HoldsItemsAt found []
+empty_serves_at None = tt
+empty_serves_at (Some listed) = empty_serves listed.stmt
 
 -- an empty line serves each process
-pub IsLineOf-empty : (program : Program) (p : Process) → IsLineOf program p []
-IsLineOf-empty program p = by (listed_at program p)
-  where
-    by : (found : Option Listed) → HoldsItemsAt found []
-    by None = tt
-    by (Some listed) = HoldsItems-empty listed.stmt
+pub empty_line_serves : (program : Program) (p : Process) (line : List ℕ) → line ≡ [] → IsLineOf program p line
+empty_line_serves program p line e = subst (IsLineOf program p) (sym e) (record { holds = empty_serves_at (listed_at program p) })

@@ -38,5 +38,5 @@ HoldsItemsAt (Some listed) line = HoldsItems listed.stmt line
 
 -- the line with which a process takes its next step: where its statement is a PRINT, it holds the items so far, and
 -- there are none before a step, since no item reads yet
-abbrev pub IsLineOf : Program → Process → List ℕ → Type 0
-IsLineOf program p line = HoldsItemsAt (listed_at program p) line
+pub record IsLineOf (program : Program) (p : Process) (line : List ℕ) : Type 0 where
+  pub holds : HoldsItemsAt (listed_at program p) line
