@@ -16,11 +16,13 @@ pub struct Store {
 
 impl Store {
     ghost use Rattle.std.specs.Prelude.{◌≡◌, IfOk};
+    ghost use Rattle.f77_meaning.specs.Sound.{Fits};
     ghost use Rattle.f77_machine.specs.Store.{values_of, reads_of};
 
     /// The storage before the first step. Nothing has been read.
     pub fn new(alloc: Global, layout: &Layout) -> Result<Store, NoMemory>
         ensures values { IfOk result (λ store. values_of store ≡ layout.now.first) }
+        ensures fits { IfOk result (λ store. Fits layout.now (values_of store)) }
         ensures reads { IfOk result (λ store. reads_of store ≡ 0) }
     {
         Ok(Store {
