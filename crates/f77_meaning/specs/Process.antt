@@ -10,9 +10,13 @@ pub record Process : Type 0 where
   pub at : ℕ
   pub answers : List ℤ
 
+-- the statement at a place of a unit, both counted from 0
+abbrev pub statement_at : Program → (unit at : ℕ) → Option Listed
+statement_at program unit at = option_and_then (λ entered. slice_get entered.listing at) (slice_get program.units unit)
+
 -- the statement at which a process stands
 abbrev pub listed_at : Program → Process → Option Listed
-listed_at program p = option_and_then (λ unit. slice_get unit.listing p.at) (slice_get program.units p.unit)
+listed_at program p = statement_at program p.unit p.at
 
 -- the initial line of that statement
 abbrev pub line_of : Option Listed → ℕ

@@ -1,0 +1,12 @@
+//! The machine: processes that run the statements of a program, one step at a time.
+//!
+//! What a step does is a definition of `f77_meaning`: each contract here cites it.
+#![tactic(auto)]
+
+pub mod demand;
+pub mod input;
+pub mod line;
+mod number;
+mod print;
+pub mod process;
+pub mod store;
