@@ -1,0 +1,5 @@
+//! The form of programs so far: lines of PRINT, and END as the last line.
+#![tactic(auto)]
+
+pub mod columns;
+pub mod lines;
