@@ -1,2 +1,5 @@
 pub mod Columns
 pub mod Lines
+pub mod Read
+pub mod Reading
+pub mod Spelling

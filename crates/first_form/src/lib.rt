@@ -3,3 +3,7 @@
 
 pub mod columns;
 pub mod lines;
+mod reader;
+pub mod statement;
+mod sums;
+mod unread;
