@@ -55,7 +55,8 @@ impl<'a> Reader<'a> {
 
     /// Takes a byte, which must come next.
     pub fn expect(&mut self, byte: u8) -> Result<(), Unread>
-        ensures { Reads (spec.expect byte self.old) result self.new }
+        ensures value { Reads (spec.expect byte self.old) result self.new }
+        ensures shorter { length self.new ≤ length self.old }
     {
         if self.eat(byte) {
             Ok(())
@@ -108,7 +109,8 @@ impl<'a> Reader<'a> {
 
     /// Takes a number: digits of value at most 2^63 - 1 (ANSI X3.9-1978, section 4.3.1).
     pub fn number(&mut self) -> Result<Expr, Unread>
-        ensures { Reads (spec.number self.old) result self.new }
+        ensures value { Reads (spec.number self.old) result self.new }
+        ensures shorter { length self.new ≤ length self.old }
     {
         let (text, rest) = self.rest.split_at(digits(self.rest));
         match number_of(text) {

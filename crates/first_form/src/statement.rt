@@ -4,7 +4,7 @@ ghost use Rattle.first_form.specs.Read.{Reads};
 ghost use Rattle.first_form.specs.Reading as spec;
 
 use crate::reader::Reader;
-use crate::sums::sum;
+use crate::sums::sum_within;
 use crate::unread::Unread;
 use f77_ast::stmt::{Item, Stmt};
 use hyb_base::no_memory::NoMemory;
@@ -17,7 +17,7 @@ fn items(alloc: Global, reader: &mut Reader<'_>, depth: usize) -> Result<Items<I
 {
     let mut found = Items::new(alloc);
     loop {
-        let value = sum(alloc, reader, depth)?;
+        let value = sum_within(alloc, reader, depth)?;
         found.push(Item::Plain(value))?;
         if !reader.eat(b',') {
             return Ok(found);

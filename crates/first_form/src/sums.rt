@@ -47,7 +47,7 @@ fn primary(alloc: Global, reader: &mut Reader<'_>, depth: usize) -> Result<Expr,
     if !reader.eat(b'(') {
         return reader.number();
     }
-    let inner = sum(alloc, reader, depth)?;
+    let inner = sum_within(alloc, reader, depth)?;
     reader.expect(b')')?;
     Ok(Expr::Paren(Boxed::new(alloc, inner)?))
 }
@@ -67,22 +67,29 @@ fn term(alloc: Global, reader: &mut Reader<'_>, depth: usize) -> Result<Expr, Un
 }
 
 /// sum: [`+` or `-`] term; sum `+` term; sum `-` term
-///
-/// Parentheses nest less deep than `depth`: where they nest as deep, nothing is read.
 #[cycle(sums)]
-pub fn sum(alloc: Global, reader: &mut Reader<'_>, depth: usize) -> Result<Expr, Unread>
+fn sum(alloc: Global, reader: &mut Reader<'_>, depth: usize) -> Result<Expr, Unread>
+    ensures value { Reads (spec.sum (spec.sum_within depth) reader.old) result reader.new }
+    ensures shorter { length reader.new ≤ length reader.old }
+{
+    let sign = reader.sign();
+    let first = term(alloc, reader, depth)?;
+    let mut left = signed(alloc, sign, first)?;
+    while let Some(operator) = reader.sum_operator() {
+        let right = term(alloc, reader, depth)?;
+        left = binary(alloc, operator, left, right)?;
+    }
+    Ok(left)
+}
+
+/// A sum in which parentheses nest less deep than `depth`: where they nest as deep, nothing is read.
+#[cycle(sums)]
+pub fn sum_within(alloc: Global, reader: &mut Reader<'_>, depth: usize) -> Result<Expr, Unread>
     ensures value { Reads (spec.sum_within depth reader.old) result reader.new }
     ensures shorter { length reader.new ≤ length reader.old }
 {
     if depth == 0 {
         return Err(Unread::Unspelled);
     }
-    let sign = reader.sign();
-    let first = term(alloc, reader, depth - 1)?;
-    let mut left = signed(alloc, sign, first)?;
-    while let Some(operator) = reader.sum_operator() {
-        let right = term(alloc, reader, depth - 1)?;
-        left = binary(alloc, operator, left, right)?;
-    }
-    Ok(left)
+    sum(alloc, reader, depth - 1)
 }
