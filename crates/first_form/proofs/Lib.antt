@@ -1,3 +1,4 @@
+pub mod ItemTurns
 pub mod LineLemmas
 pub mod Numbers
 pub mod Turns
