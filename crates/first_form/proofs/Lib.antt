@@ -1,4 +1,5 @@
 pub mod ItemTurns
 pub mod LineLemmas
 pub mod Numbers
+pub mod Scans
 pub mod Turns

@@ -1,4 +1,5 @@
 pub mod Columns
+pub mod FirstForm
 pub mod Lines
 pub mod Read
 pub mod Reading

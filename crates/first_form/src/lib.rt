@@ -2,6 +2,7 @@
 #![tactic(auto)]
 
 pub mod columns;
+pub mod front;
 pub mod lines;
 mod reader;
 pub mod statement;
