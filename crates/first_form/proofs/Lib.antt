@@ -2,4 +2,5 @@ pub mod ItemTurns
 pub mod LineLemmas
 pub mod Numbers
 pub mod Scans
+pub mod Sound
 pub mod Turns

@@ -25,7 +25,8 @@ read_by_parse bs r d h = from_parse bs r d (parse_signed_digits numerals w64 bs 
 
 -- ---- the number that a text begins with
 
-digits_all : (i : Text) → list_all is_ascii_digit (take (digits i) i) ≡ true
+-- they are digits
+pub digits_all : (i : Text) → list_all is_ascii_digit (take (digits i) i) ≡ true
 digits_all [] = refl
 digits_all (c ∷ i) = by (digits_all i) (is_ascii_digit c) refl
   where

@@ -1,5 +1,6 @@
 pub mod Columns
 pub mod FirstForm
+pub mod Laws
 pub mod Lines
 pub mod Read
 pub mod Reading

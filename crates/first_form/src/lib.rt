@@ -3,6 +3,7 @@
 
 pub mod columns;
 pub mod front;
+pub mod laws;
 pub mod lines;
 mod reader;
 pub mod statement;
