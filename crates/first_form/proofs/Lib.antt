@@ -1,0 +1,6 @@
+pub mod ItemTurns
+pub mod LineLemmas
+pub mod Numbers
+pub mod Scans
+pub mod Sound
+pub mod Turns
