@@ -9,15 +9,15 @@ use std::alloc::Global;
 /// The greatest number of bytes of a line.
 pub const LINE_LIMIT: usize = 10_000;
 
-/// A line of 10,000 bytes at most. Its room is reserved when it is made, so no call of it takes memory.
+/// A line of 10,000 bytes at most, and its LF. Its room is reserved when it is made, so no call of it takes memory.
 #[derive(Drop)]
 pub struct Line {
     bytes: Vec<u8>,
-    ghost reserved: { 10000 ≤ vec_capacity bytes },
+    ghost reserved: { 10001 ≤ vec_capacity bytes },
 }
 
 impl Line {
-    ghost use Rattle.std.specs.Prelude.{◌≡◌, ◌↔◌, [], ◌∷◌, ◌++◌, IfOk, IfErr, OnOk, OnErr, IsErr};
+    ghost use Rattle.std.specs.Prelude.{◌≡◌, ◌≤◌, ◌↔◌, [], ◌∷◌, ◌++◌, length, IfOk, IfErr, OnOk, OnErr, IsErr};
     ghost use Rattle.hyb_base.specs.Decimal.{decimal_of};
     ghost use Rattle.f77_ast.specs.declared.refusal.Fault.TheVariants.{LineLimit};
     ghost use Rattle.f77_machine.specs.Line.{text_of, IsPastLimit, logical_text};
@@ -27,7 +27,7 @@ impl Line {
         ensures { IfOk result (λ line. text_of line ≡ []) }
     {
         Ok(Line {
-            bytes: Vec::with_capacity(alloc, LINE_LIMIT)?,
+            bytes: Vec::with_capacity(alloc, LINE_LIMIT + 1)?,
         })
     }
 
@@ -81,7 +81,15 @@ impl Line {
         self.bytes.push_reserved(b' ');
     }
 
-    /// The bytes of the line, without an end of line.
+    /// Ends the line: adds its LF, for which there is room.
+    pub fn finish(&mut self)
+        requires { length (text_of self.old) ≤ 10000 }
+        ensures { text_of self.new ≡ text_of self.old ++ 10 ∷ [] }
+    {
+        self.bytes.push_reserved(b'\n');
+    }
+
+    /// The bytes of the line, without an end of line unless it is finished.
     pub fn text(&self) -> &[u8]
         ensures { result.now ≡ text_of self.now }
     {

@@ -10,7 +10,7 @@ use Rattle.f77_meaning.specs.Demand.{Demand, gives, wants, fails}
 use Rattle.f77_meaning.specs.Process.{Process, listed_at}
 use Rattle.f77_meaning.specs.Print.{line_of_items}
 use Rattle.f77_meaning.specs.Sound.{EndsWithEnd, IsSound, IsOf}
-use Rattle.f77_meaning.specs.Step.{at_next, event, event_at, statement_event, print_event, resumed}
+use Rattle.f77_meaning.specs.Step.{at_next, event, event_at, statement_event, print_event, resumed_by}
 
 -- whether a statement is a PRINT
 abbrev is_print : Stmt → Type 0
@@ -49,18 +49,18 @@ after_print_of program p listed sound h print = by (slice_get program.units p.un
         after_print_in u.listing listed p.at ended h print
 
 -- after each event of a process of a sound program, the process stands at a statement
-pub IsOf-resumed : (program : Program) (p : Process) (answer : ℤ) → IsSound program → IsOf program p → IsOf program (resumed (event program p) p answer)
+pub IsOf-resumed : (program : Program) (p : Process) (answer : ℤ) → IsSound program → IsOf program p → IsOf program (resumed_by (event program p) p answer)
 IsOf-resumed program p answer sound is_of = record { stands = by (listed_at program p) refl is_of.stands }
   where
-    printed : (listed : Listed) → listed_at program p ≡ Some listed → is_print listed.stmt → (d : Demand (List ℕ)) → IsSome (listed_at program (resumed (print_event d) p answer))
+    printed : (listed : Listed) → listed_at program p ≡ Some listed → is_print listed.stmt → (d : Demand (List ℕ)) → IsSome (listed_at program (resumed_by (print_event d) p answer))
     printed listed e print (gives line rest) = after_print_of program p listed sound e print
     printed listed e print (wants address) = is_of.stands
     printed listed e print (fails fault) = is_of.stands
 
-    stated : (listed : Listed) → listed_at program p ≡ Some listed → (s : Stmt) → listed.stmt ≡ s → IsSome (listed_at program (resumed (statement_event s p.answers) p answer))
+    stated : (listed : Listed) → listed_at program p ≡ Some listed → (s : Stmt) → listed.stmt ≡ s → IsSome (listed_at program (resumed_by (statement_event s p.answers) p answer))
     stated listed e (Print items) h = printed listed e (subst is_print (sym h) tt) (line_of_items items p.answers)
     stated listed e _ h = is_of.stands
 
-    by : (found : Option Listed) → listed_at program p ≡ found → IsSome found → IsSome (listed_at program (resumed (event_at found p.answers) p answer))
+    by : (found : Option Listed) → listed_at program p ≡ found → IsSome found → IsSome (listed_at program (resumed_by (event_at found p.answers) p answer))
     by None e stands = is_of.stands
     by (Some listed) e stands = stated listed e listed.stmt refl

@@ -6,7 +6,7 @@ use Rattle.f77_ast.specs.declared.step.Stepped.{Stepped}
 use Rattle.f77_ast.specs.declared.step.Stepped.TheVariants.{Read, Wrote, Inner, Printed, Ended, Faulted}
 use Rattle.f77_meaning.specs.Event.{Event, reads, writes, moves, prints, ends, faults}
 use Rattle.f77_meaning.specs.Process.{Process}
-use Rattle.f77_meaning.specs.Step.{event, resumed}
+use Rattle.f77_meaning.specs.Step.{event, resumed_by}
 
 -- what a step comes to: what it answers, the process after it, the storage, the number of reads so far and the line
 -- that PRINT builds
@@ -50,7 +50,7 @@ line_after _ line = line
 abbrev pub next_by : Event → Process → (store : List ℤ) → (count : ℕ) → (line : List ℕ) → Next
 next_by did p store count line = record {
   stepped = stepped_of did;
-  process = resumed did p (answer_of did store);
+  process = resumed_by did p (answer_of did store);
   store = store_after did store;
   reads = reads_after did count;
   line = line_after did line;

@@ -1,7 +1,9 @@
 pub mod CauseLemmas
 pub mod CommandLemmas
-pub mod FrontLemmas
 pub mod LineLemmas
 pub mod PrepareLemmas
 pub mod ReadLemmas
+pub mod RunLemmas
+pub mod ShowLemmas
+pub mod SoundLemmas
 pub mod TopLemmas

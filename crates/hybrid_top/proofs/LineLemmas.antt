@@ -1,33 +1,99 @@
--- Lemmas on the lines of a file.
-use Rattle.std.proofs.Common.{◌≡◌, ◌≢◌, ℕ, zero, suc, ◌<◌, ◌≤◌, ◌+◌, List, [], ◌∷◌, length, take, drop, get_or, refl, ap, ◌∙◌, ◌⊎◌, inl, inr, add-one, arith}
-use Rattle.std.proofs.lemmas.Grind.{common_steps}
-use Rattle.std.proofs.lemmas.Bool.{ne_eqb}
-use Rattle.hybrid_top.specs.Lines.{lines_of, onto_first}
+-- Lemmas on the line that a step leaves.
+use Rattle.std.proofs.Common.{◌≡◌, ◌≢◌, ℕ, ◌+◌, ◌≤◌, ℤ, List, [], ◌∷◌, ◌++◌, length, Bool, true, false, Option, None, Some, refl, sym, ap, ◌∙◌, subst, if◌then◌else◌, arith, length-append}
+use Rattle.std.proofs.lemmas.Bool.{leb-true}
+use Rattle.std.specs.Prelude.{nat_le}
+use Rattle.hyb_base.specs.Decimal.{decimal_of}
+use Rattle.f77_ast.specs.declared.program.Listed.{Listed}
+use Rattle.f77_ast.specs.declared.program.Program.{Program}
+use Rattle.f77_ast.specs.declared.refusal.Fault.TheVariants.{LineLimit}
+use Rattle.f77_ast.specs.declared.step.Stepped.{Stepped}
+use Rattle.f77_ast.specs.declared.step.Stepped.TheVariants.{Printed}
+use Rattle.f77_ast.specs.declared.stmt.Item.{Item, Plain}
+use Rattle.f77_ast.specs.declared.stmt.Stmt.{Stmt, Print, End}
+use Rattle.f77_meaning.specs.Demand.{Demand, gives, wants, fails, and_then, demand_of}
+use Rattle.f77_meaning.specs.Event.{Event, reads, writes, moves, prints, ends, faults}
+use Rattle.f77_meaning.specs.Next.{Next, next, next_of, stepped_of, line_after}
+use Rattle.f77_meaning.specs.Print.{line_limit, with_item, item_of, items_of, line_of_items}
+use Rattle.f77_meaning.specs.Process.{Process, listed_at}
+use Rattle.f77_meaning.specs.Step.{event, event_at, statement_event, print_event}
 
--- the lines where the first byte is no LF
-lines-other : (b : ℕ) (bytes : List ℕ) → b ≢ 10 → lines_of (b ∷ bytes) ≡ onto_first b (lines_of bytes)
-lines-other b bytes other = rw (ne_eqb b 10 other) refl
+-- a line that was made is no longer than a line may be
+abbrev IsShort : Demand (List ℕ) → Type 0
+IsShort (gives line rest) = length line ≤ line_limit
+IsShort (wants address) = Unit {0}
+IsShort (fails fault) = Unit {0}
 
--- the lines where the first LF stands at n
-pub line_cut : (bytes : List ℕ) (n : ℕ) → ((k : ℕ) → k < n → get_or bytes k 0 ≢ 10) → n < length bytes → get_or bytes n 0 ≡ 10 → lines_of bytes ≡ take n bytes ∷ lines_of (drop (suc n) bytes)
-line_cut [] n before within feed = absurd (omega arith)
-line_cut (b ∷ bytes) zero before within feed = rw feed refl
-line_cut (b ∷ bytes) (suc n) before within feed =
-    lines-other b bytes (before 0 (omega arith))
-    ∙ ap (onto_first b) (line_cut bytes n (λ k h. before (suc k) (omega arith)) (omega arith) feed)
+with_item_short : (line text : List ℕ) (rest : List ℤ) → IsShort (with_item line text rest)
+with_item_short line text rest = by (nat_le (length line + (1 + length text)) line_limit) refl where
+  by : (fits : Bool) → nat_le (length line + (1 + length text)) line_limit ≡ fits → IsShort (if fits then gives (line ++ (32 ∷ text)) rest else fails LineLimit)
+  by true e = let h : length line + (1 + length text) ≤ line_limit = leb-true (length line + (1 + length text)) line_limit e in omega (arith, length-append line (32 ∷ text))
+  by false e = tt
 
--- the line where there is no LF
-pub line_whole : (bytes : List ℕ) → bytes ≢ [] → ((k : ℕ) → k < length bytes → get_or bytes k 0 ≢ 10) → lines_of bytes ≡ bytes ∷ []
-line_whole [] some before = absurd (some refl)
-line_whole (b ∷ []) some before = lines-other b [] (before 0 (omega arith))
-line_whole (b ∷ c ∷ bytes) some before =
-    lines-other b (c ∷ bytes) (before 0 (omega arith))
-    ∙ ap (onto_first b) (line_whole (c ∷ bytes) (λ e. cc) (λ k h. before (suc k) (omega arith)))
+item_short : (item : Item) (line : List ℕ) (answers : List ℤ) → length line ≤ line_limit → IsShort (item_of item line answers)
+item_short (Plain expr) line answers h = by (demand_of expr answers) where
+  by : (d : Demand ℤ) → IsShort (and_then d (λ value rest. with_item line (decimal_of value) rest))
+  by (gives value rest) = with_item_short line (decimal_of value) rest
+  by (wants address) = tt
+  by (fails fault) = tt
+item_short _ line answers h = h
 
--- the first line and the rest, where n bytes stand before the first LF or in all
-pub line_next : (bytes : List ℕ) (n after : ℕ) → bytes ≢ [] → ((k : ℕ) → k < n → get_or bytes k 0 ≢ 10) → n ≤ length bytes → (n < length bytes → get_or bytes n 0 ≡ 10) → ((n < length bytes) × (after ≡ n + 1)) ⊎ ((length bytes ≤ n) × (after ≡ n)) → lines_of bytes ≡ take n bytes ∷ lines_of (drop after bytes)
-line_next bytes n after some before within feed (inl (h, e)) = rw (e, add-one) (line_cut bytes n before h (feed h))
-line_next bytes n after some before within feed (inr (h, e)) =
-    let all : take n bytes ≡ bytes = grind (arith, common_steps) in
-    let none : drop n bytes ≡ [] = grind (arith, common_steps) in
-    rw (e, all, none) (line_whole bytes some (λ k l. before k (omega arith)))
+then_short : (items : List Item) (d : Demand (List ℕ)) → ((more : List ℕ) (rest : List ℤ) → length more ≤ line_limit → IsShort (items_of items more rest)) → IsShort d → IsShort (and_then d (λ more rest. items_of items more rest))
+then_short items (gives more rest) go s = go more rest s
+then_short items (wants address) go s = tt
+then_short items (fails fault) go s = tt
+
+items_short : (items : List Item) (line : List ℕ) (answers : List ℤ) → length line ≤ line_limit → IsShort (items_of items line answers)
+items_short [] line answers h = h
+items_short (item ∷ items) line answers h = then_short items (item_of item line answers) (λ more rest s. items_short items more rest s) (item_short item line answers h)
+
+line_short : (items : List Item) (answers : List ℤ) → IsShort (line_of_items items answers)
+line_short [] answers = omega arith
+line_short (item ∷ items) answers = items_short (item ∷ items) [] answers (omega arith)
+
+-- a printed line is no longer than a line may be
+abbrev PrintsShort : Event → Type 0
+PrintsShort (prints text) = length text ≤ line_limit
+PrintsShort _ = Unit {0}
+
+print_short : (d : Demand (List ℕ)) → IsShort d → PrintsShort (print_event d)
+print_short (gives line rest) h = h
+print_short (wants address) h = tt
+print_short (fails fault) h = tt
+
+statement_short : (s : Stmt) (answers : List ℤ) → PrintsShort (statement_event s answers)
+statement_short (Print items) answers = print_short (line_of_items items answers) (line_short items answers)
+statement_short End answers = tt
+statement_short _ answers = tt
+
+event_short : (found : Option Listed) (answers : List ℤ) → PrintsShort (event_at found answers)
+event_short None answers = tt
+event_short (Some listed) answers = statement_short listed.stmt answers
+
+short_after : (did : Event) (line : List ℕ) → PrintsShort did → Printed ≡ stepped_of did → length (line_after did line) ≤ line_limit
+short_after (prints text) line h e = h
+short_after (reads address by) line h e = absurd (cc)
+short_after (writes address value by control) line h e = absurd (cc)
+short_after moves line h e = absurd (cc)
+short_after ends line h e = absurd (cc)
+short_after (faults fault) line h e = absurd (cc)
+
+-- the line after a step that printed
+pub printed_short : (program : Program) (p q : Process) (old new : List ℤ) (count counted : ℕ) (text line : List ℕ) → next_of Printed q new counted line ≡ next program p old count text → length line ≤ line_limit
+printed_short program p q old new count counted text line e =
+    let stepped : Printed ≡ stepped_of (event program p) = ap (λ (n : Next). n.stepped) e in
+    let line_is : line ≡ line_after (event program p) text = ap (λ (n : Next). n.line) e in
+    subst (λ l. length l ≤ line_limit) (sym line_is) (short_after (event program p) text (event_short (listed_at program p) p.answers) stepped)
+
+same_after : (did : Event) (line : List ℕ) → stepped_of did ≢ Printed → line_after did line ≡ line
+same_after (prints text) line n = absurd (n refl)
+same_after (reads address by) line n = refl
+same_after (writes address value by control) line n = refl
+same_after moves line n = refl
+same_after ends line n = refl
+same_after (faults fault) line n = refl
+
+-- the line after a step that printed nothing
+pub line_kept : (program : Program) (p q : Process) (old new : List ℤ) (count counted : ℕ) (text line : List ℕ) (stepped : Stepped) → next_of stepped q new counted line ≡ next program p old count text → stepped ≢ Printed → line ≡ text
+line_kept program p q old new count counted text line stepped e n =
+    let same : stepped ≡ stepped_of (event program p) = ap (λ (m : Next). m.stepped) e in
+    ap (λ (m : Next). m.line) e ∙ same_after (event program p) text (λ h. n (same ∙ h))

@@ -1,15 +1,17 @@
 -- Lemmas on what stops a command before its first step.
-use Rattle.std.proofs.Common.{◌≡◌, ℕ, List, Some, Ok, refl, ap, ◌∙◌}
+use Rattle.std.proofs.Common.{◌≡◌, ℕ, List, Some, Result, Ok, Err, refl, ap, ◌∙◌}
+use Rattle.std.specs.Prelude.{IfErr}
 use Rattle.hyb_base.specs.Count.{next_count, Rose}
 use Rattle.hyb_outside.specs.FilesSeen.{FilesSeen}
 use Rattle.hyb_outside.proofs.Takes.{rose_along}
 use Rattle.f77_ast.specs.declared.program.Program.{Program}
 use Rattle.hybrid_top.specs.Answer.{IsAnswer, stops, program_fault, input_fault, schedule_fault, no_memory, program_limit, refused, input_limit, schedule_limit}
 use Rattle.hybrid_top.specs.Command.{RunRequest}
-use Rattle.hybrid_top.specs.FirstForm.{front_of}
+use Rattle.first_form.specs.FirstForm.{front_of}
 use Rattle.hybrid_top.specs.Prepared.{ReadStops, fault, too_long, no_memory as out_of_memory, FrontStops, refused as not_accepted, no_program_memory}
 use Rattle.hybrid_top.specs.Reading.{Keeps, IsWhole}
 use Rattle.hybrid_top.specs.declared.status.Status.{Status}
+use Rattle.hybrid_top.specs.declared.status.Status.TheVariants as status
 
 -- a fault after others is one of the whole call
 rose_after : (old mid new : FilesSeen) → Keeps old mid → Keeps mid new → Rose mid.faults new.faults → Rose old.faults new.faults
@@ -37,3 +39,8 @@ pub schedule_stops : (old mid new : FilesSeen) (r : RunRequest) (s : Status) (by
 schedule_stops old mid new r s bytes program input k l two whole is read (fault e rose same) = schedule_fault r bytes program input refl whole is read (rose_after old mid new k l rose) (same ∙ two) (ap stops e)
 schedule_stops old mid new r s bytes program input k l two whole is read (too_long e long) = schedule_limit r bytes program input refl whole is read (rw k.content at long) (ap stops e)
 schedule_stops old mid new r s bytes program input k l two whole is read (out_of_memory e) = no_memory r refl (ap stops e)
+
+-- no memory for the machine
+pub start_stops : {A : Type 0} (old new : FilesSeen) (r : RunRequest) (result : Result A Status) → IfErr result (λ s. s ≡ status.NoMemory) → IfErr result (λ s. IsAnswer old new (Some r) (stops s))
+start_stops old new r (Ok machine) h = tt
+start_stops old new r (Err s) h = no_memory r refl (ap stops h)

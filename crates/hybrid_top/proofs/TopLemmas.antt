@@ -1,48 +1,40 @@
 -- Lemmas on the top call.
-use Rattle.std.proofs.Common.{◌≡◌, ℕ, suc, ◌-◌, ◌<◌, length, List, Option, Some, None, Result, Ok, Bool, true, false, if◌then◌else◌, refl, sym, arith}
-use Rattle.std.specs.Prelude.{max}
+use Rattle.std.proofs.Common.{◌≡◌, ◌≢◌, ℕ, Some, Option, refl, sym, ap, ◌∙◌, subst}
+use Rattle.hyb_outside.specs.declared.pieces.To.{To}
 use Rattle.hyb_outside.specs.FilesSeen.{FilesSeen}
-use Rattle.f77_ast.specs.declared.program.Program.{Program}
-use Rattle.f77_ast.specs.declared.refusal.Refusal.{Refusal}
-use Rattle.f77_meaning.specs.Run.{sequential_run}
-use Rattle.hybrid_top.specs.Answer.{stops, ran, IsAnswer, run}
+use Rattle.hyb_outside.specs.Seen.{Seen}
+use Rattle.f77_meaning.specs.Run.{run_from, sequential_run}
+use Rattle.f77_machine.specs.Process.{process_of}
+use Rattle.f77_machine.specs.Store.{values_of}
+use Rattle.hybrid_top.specs.Answer.{Answer, stops, ran, IsAnswer, run, Shows, Gives, Performed, Answered}
 use Rattle.hybrid_top.specs.Command.{RunRequest}
-use Rattle.hybrid_top.specs.FirstForm.{refused, front_of, tabbed_of, ruled_of, ended_of, end_program, first_passing, has_tab, first_break, ends_in_end}
-use Rattle.hybrid_top.specs.Lines.{lines_of}
 use Rattle.hybrid_top.specs.Prepared.{IsPrepared}
+use Rattle.hybrid_top.specs.declared.machine.Machine.{Machine}
+use Rattle.hybrid_top.specs.declared.status.Status.{Status}
 use Rattle.hybrid_top.specs.declared.status.Status.TheVariants as status
+use Rattle.hybrid_top.proofs.CauseLemmas.{never_write}
+use Rattle.hybrid_top.proofs.ShowLemmas.{shows_along, shows_nothing, gives_cut, gives_then}
 
-abbrev chosen : Bool → Result Program Refusal → Result Program Refusal
-chosen is other = if is then Ok end_program else other
+-- the run of a prepared machine is the sequential run
+pub prepared_run : (seen : FilesSeen) (r : RunRequest) (m : Machine) (p : IsPrepared seen r m) → sequential_run p.program p.input r.steps ≡ run_from m.program (process_of m.process) (values_of m.store) r.steps
+prepared_run seen r m p = rw (p.start.program_is, p.start.process, p.start.store) refl
 
--- an accepted program is that of one END line
-ended_is : (lines : List (List ℕ)) (program : Program) → ended_of lines ≡ Ok program → program ≡ end_program
-ended_is lines program e = by_end (ends_in_end lines) e where
-  by_end : (is : Bool) → chosen is (refused (max 1 (length lines)) 54) ≡ Ok program → program ≡ end_program
-  by_end true e = cc
-  by_end false e = cc
+-- what it shows is an answer
+pub prepared_performs : (old new : FilesSeen) (r : RunRequest) (m : Machine) (s : Status) (a b : To → Seen) → IsPrepared old r m → Shows (ran (run_from m.program (process_of m.process) (values_of m.store) r.steps)) s a b → Performed (Some r) old new s a b
+prepared_performs old new r m s a b p h = record {
+  answer = ran (sequential_run p.program p.input r.steps);
+  is_answer = run r p.bytes p.program p.input p.schedule refl p.program_whole p.accepted p.input_whole p.schedule_whole refl;
+  shows = shows_along _ _ s a b (prepared_run old r m p) h;
+}
 
-ruled_is : (line : Option ℕ) (lines : List (List ℕ)) (program : Program) → ruled_of line lines ≡ Ok program → program ≡ end_program
-ruled_is (Some line) lines program e = cc
-ruled_is None lines program e = ended_is lines program e
+-- a status before the first step is an answer
+pub stop_performs : (old new : FilesSeen) (q : Option RunRequest) (s : Status) (a : To → Seen) → IsAnswer old new q (stops s) → Performed q old new s a a
+stop_performs old new q s a i = record { answer = stops s; is_answer = i; shows = shows_nothing s a }
 
-tabbed_is : (line : Option ℕ) (lines : List (List ℕ)) (program : Program) → tabbed_of line lines ≡ Ok program → program ≡ end_program
-tabbed_is (Some line) lines program e = cc
-tabbed_is None lines program e = ruled_is (first_break lines) lines program e
+-- where a line was cut, nothing more is written
+pub performed_cut : (old new : FilesSeen) (q : Option RunRequest) (s : Status) (a b : To → Seen) → Performed q old new s a b → s ≡ status.WriteFault → Answered q old new s a b
+performed_cut old new q s a b p w = record { answer = p.answer; is_answer = p.is_answer; gives = gives_cut p.answer s a b (never_write old new q p.answer p.is_answer) w p.shows }
 
-pub accepted_is : (bytes : List ℕ) (program : Program) → front_of bytes ≡ Ok program → program ≡ end_program
-accepted_is bytes program e = tabbed_is (first_passing has_tab 1 (lines_of bytes)) (lines_of bytes) program e
-
--- its run ends with its first step
-end_ran_at : (input : List ℕ) (left : ℕ) → ran (sequential_run end_program input (suc left)) ≡ stops status.Done
-end_ran_at input left = refl
-
-pub end_ran : (program : Program) (input : List ℕ) (steps : ℕ) → program ≡ end_program → 0 < steps → ran (sequential_run program input steps) ≡ stops status.Done
-end_ran program input steps e h =
-    let more : steps ≡ suc (steps - 1) = omega arith in
-    rw (e, more) (end_ran_at input (steps - 1))
-
--- a prepared program is run
-pub prepared_ran : (old new : FilesSeen) (r : RunRequest) (program : Program) (input : List ℕ) → 0 < r.steps → IsPrepared old r program input → IsAnswer old new (Some r) (stops status.Done)
-prepared_ran old new r program input h p =
-    run r p.bytes program input p.schedule refl p.program_whole p.accepted p.input_whole p.schedule_whole (sym (end_ran program input r.steps (accepted_is p.bytes program p.accepted) h))
+-- else the status line follows
+pub performed_then : (old new : FilesSeen) (q : Option RunRequest) (s result : Status) (a b c : To → Seen) → Performed q old new s a b → s ≢ status.WriteFault → Gives (stops s) result b c → Answered q old new result a c
+performed_then old new q s result a b c p n g = record { answer = p.answer; is_answer = p.is_answer; gives = gives_then p.answer s result a b c n p.shows g }

@@ -10,7 +10,7 @@ use Rattle.f77_ast.specs.declared.program.Program.{Program}
 use Rattle.f77_ast.specs.declared.refusal.Refusal.{Refusal}
 use Rattle.f77_meaning.specs.Run.{Run, End, Ended, Faulted, Spent, sequential_run}
 use Rattle.hybrid_top.specs.Command.{RunRequest}
-use Rattle.hybrid_top.specs.FirstForm.{front_of}
+use Rattle.first_form.specs.FirstForm.{front_of}
 use Rattle.hybrid_top.specs.Reading.{IsWhole, IsTooLong}
 use Rattle.hybrid_top.specs.StatusText.{status_text}
 use Rattle.hybrid_top.specs.declared.status.Status.{Status}
@@ -69,6 +69,12 @@ status_pieces status.Done = []
 status_pieces status.WriteFault = []
 status_pieces s = piece Notes (status_text s) ∷ []
 
+-- the sinks take all lines of the answer and its status is the result, or they stop in one of its lines and the
+-- result is a fault of writing
+pub data Shows (answer : Answer) (result : Status) (old new : To → Seen) : Type 0 where
+  shown : result ≡ answer.status → TakesAll (map line_piece answer.lines) old new → Shows answer result old new
+  stopped : result ≡ status.WriteFault → StopsIn (map line_piece answer.lines) old new → Shows answer result old new
+
 -- all pieces of an answer: the lines to `out`, and then the status line to `notes`
 abbrev pub pieces_of : Answer → List Piece
 pieces_of answer = map line_piece answer.lines ++ status_pieces answer.status
@@ -78,6 +84,12 @@ pieces_of answer = map line_piece answer.lines ++ status_pieces answer.status
 pub data Gives (answer : Answer) (result : Status) (old new : To → Seen) : Type 0 where
   whole : result ≡ answer.status → TakesAll (pieces_of answer) old new → Gives answer result old new
   cut : result ≡ status.WriteFault → StopsIn (pieces_of answer) old new → Gives answer result old new
+
+-- a command shows the lines of one of its answers
+pub record Performed (request : Option RunRequest) (files_old files_new : FilesSeen) (result : Status) (old new : To → Seen) : Type 0 where
+  pub answer : Answer
+  pub is_answer : IsAnswer files_old files_new request answer
+  pub shows : Shows answer result old new
 
 -- a command gives one of its answers
 pub record Answered (request : Option RunRequest) (files_old files_new : FilesSeen) (result : Status) (old new : To → Seen) : Type 0 where

@@ -1,8 +1,7 @@
 pub mod Answer
 pub mod Causes
 pub mod Command
-pub mod FirstForm
-pub mod Lines
+pub mod Machine
 pub mod Prepared
 pub mod Reading
 pub mod StatusText

@@ -5,8 +5,10 @@ use Rattle.hyb_outside.specs.FilesSeen.{FilesSeen}
 use Rattle.f77_ast.specs.declared.program.Program.{Program}
 use Rattle.f77_ast.specs.declared.refusal.Refusal.{Refusal}
 use Rattle.hybrid_top.specs.Command.{RunRequest}
-use Rattle.hybrid_top.specs.FirstForm.{front_of}
+use Rattle.first_form.specs.FirstForm.{front_of}
+use Rattle.hybrid_top.specs.Machine.{IsAtStart}
 use Rattle.hybrid_top.specs.Reading.{IsWhole, IsTooLong}
+use Rattle.hybrid_top.specs.declared.machine.Machine.{Machine}
 use Rattle.hybrid_top.specs.declared.status.Status.{Status}
 use Rattle.hybrid_top.specs.declared.status.Status.TheVariants as status
 
@@ -22,14 +24,18 @@ pub data ReadStops (file : ℕ) (content : Option (List ℕ)) (old new : FilesSe
   too_long : stop ≡ status.FileLimit file → IsTooLong content → ReadStops file content old new stop
   no_memory : stop ≡ status.NoMemory → ReadStops file content old new stop
 
--- the program and the input of a request: the three files are read whole, and the program is accepted
-pub record IsPrepared (seen : FilesSeen) (request : RunRequest) (program : Program) (input : List ℕ) : Type 0 where
+-- a machine of a request before its first step: the three files are read whole, the program is accepted, and the machine
+-- is at its start
+pub record IsPrepared (seen : FilesSeen) (request : RunRequest) (m : Machine) : Type 0 where
+  pub program : Program
+  pub input : List ℕ
   pub bytes : List ℕ
   pub schedule : List ℕ
   pub program_whole : IsWhole (seen.content request.program) bytes
   pub accepted : front_of bytes ≡ Ok program
   pub input_whole : IsWhole (seen.content request.input) input
   pub schedule_whole : IsWhole (seen.content request.schedule) schedule
+  pub start : IsAtStart program m
 
 -- why no program was made of some bytes
 pub data FrontStops (bytes : List ℕ) (stop : Status) : Type 0 where

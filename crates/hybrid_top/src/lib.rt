@@ -2,10 +2,10 @@
 #![tactic(auto)]
 
 pub mod command;
-pub mod front;
-pub mod lines;
+pub mod machine;
 pub mod prepare;
 pub mod read_file;
+pub mod run;
 pub mod status;
 pub mod status_line;
 #[cfg(test)]

@@ -4,28 +4,23 @@ ghost use Rattle.hyb_base.specs.Count.{next_count, Rose};
 ghost use Rattle.hybrid_top.specs.Answer.{stops, IsAnswer};
 ghost use Rattle.hybrid_top.specs.Causes.{EndsGiven};
 ghost use Rattle.hybrid_top.specs.Command.{request_of};
-ghost use Rattle.hybrid_top.specs.FirstForm.{front_of};
+ghost use Rattle.first_form.specs.FirstForm.{front_of};
+ghost use Rattle.f77_meaning.specs.Sound.{IsSound};
+ghost use Rattle.hybrid_top.specs.Machine.{IsAtStart};
 ghost use Rattle.hybrid_top.specs.Prepared.{IsPrepared, ReadStops, FrontStops, MayRead};
 ghost use Rattle.hybrid_top.specs.Reading.{IsWhole, Keeps, file_limit};
 
 use crate::command::RunCommand;
-use crate::front::front;
+use crate::machine::{Machine, at_start};
+use first_form::front::front;
 use crate::read_file::{ReadError, read_file};
 use crate::status::Status;
 use f77_ast::program::Program;
 use f77_ast::refusal::FrontError;
 use hyb_base::bytes::Bytes;
+use hyb_base::no_memory::NoMemory;
 use hyb_outside::files::Files;
 use std::alloc::Global;
-
-/// What a run begins with.
-#[derive(Drop)]
-pub struct Prepared {
-    /// The accepted program.
-    pub program: Program,
-    /// The bytes of the input.
-    pub input: Bytes,
-}
 
 /// The bytes of a file, or the status with which the command stops.
 fn read<F: Files>(alloc: Global, name: &[u8], file: u8, files: &mut F) -> Result<Bytes, Status>
@@ -56,16 +51,29 @@ fn accept(alloc: Global, bytes: &[u8]) -> Result<Program, Status>
     }
 }
 
-/// Reads the program and makes it, and then reads the input and the schedule, each to its end.
+/// A machine at its start, or the status with which the command stops.
+fn start(alloc: Global, program: Program, input: Bytes) -> Result<Machine, Status>
+    requires { IsSound program }
+    ensures machine { IfOk result (IsAtStart program) }
+    ensures stops { IfErr result (λ stop. stop ≡ Status.NoMemory) }
+{
+    match at_start(alloc, program, input) {
+        Ok(machine) => Ok(machine),
+        Err(NoMemory) => Err(Status::NoMemory),
+    }
+}
+
+/// Reads the program and makes it, reads the input and the schedule, each to its end, and then takes all memory of
+/// the run.
 ///
 /// The bytes of the schedule aren't looked at.
 pub fn prepare<F: Files>(
     alloc: Global,
     command: &RunCommand<'_>,
     files: &mut F,
-) -> Result<Prepared, Status>
+) -> Result<Machine, Status>
     requires { MayRead (F.seen files.old) (request_of command.now) }
-    ensures prepared { IfOk result (λ p. IsPrepared (F.seen files.old) (request_of command.now) p.program p.input) }
+    ensures prepared { IfOk result (IsPrepared (F.seen files.old) (request_of command.now)) }
     ensures stops { IfErr result (λ s. IsAnswer (F.seen files.old) (F.seen files.new) (Some (request_of command.now)) (stops s)) }
     ensures ends { OnOk result ((F.seen files.new).ends ≡ next_count (next_count (next_count (F.seen files.old).ends))) }
     ensures ends_at_stop { IfErr result (λ s. EndsGiven s (F.seen files.old).ends (F.seen files.new).ends) }
@@ -75,5 +83,5 @@ pub fn prepare<F: Files>(
     let program = accept(alloc, bytes.as_slice())?;
     let input = read(alloc, command.input, 2, files)?;
     let _schedule = read(alloc, command.schedule, 3, files)?;
-    Ok(Prepared { program, input })
+    start(alloc, program, input)
 }

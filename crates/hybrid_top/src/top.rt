@@ -4,7 +4,7 @@ ghost use Rattle.std.specs.Option.{ForSome};
 ghost use Rattle.hyb_base.specs.Count.{Rose};
 ghost use Rattle.hyb_outside.specs.Pieces.{sinks, OneRose};
 ghost use Rattle.hyb_outside.specs.Seen.{Takes};
-ghost use Rattle.hybrid_top.specs.Answer.{stops, IsAnswer, Gives, Answered};
+ghost use Rattle.hybrid_top.specs.Answer.{stops, Gives, Performed, Answered};
 ghost use Rattle.hybrid_top.specs.Causes.{FileLimitComes, FileLimitOnly, RefusedComes, RefusedOnly, RunOnly, RunComes, RunCompletes, is_before_run, EndsGiven};
 ghost use Rattle.hybrid_top.specs.Command.{command_of};
 ghost use Rattle.hybrid_top.specs.Prepared.{MayRead};
@@ -13,6 +13,7 @@ ghost use Rattle.hybrid_top.specs.StatusText.{status_text};
 
 use crate::command::command;
 use crate::prepare::prepare;
+use crate::run::run;
 use crate::status::Status;
 use crate::status_line::StatusLine;
 use hyb_base::words::Words;
@@ -22,18 +23,25 @@ use hyb_outside::sink::Sink;
 use std::alloc::Global;
 
 /// Does what the words ask for, up to the status line.
-fn answer<F: Files>(alloc: Global, words: &Words, files: &mut F) -> Status
+fn answer<F: Files, O: Sink, N: Sink, Q: Sink>(
+    alloc: Global,
+    words: &Words,
+    files: &mut F,
+    out: &mut O,
+    notes: &mut N,
+    order: &mut Q,
+) -> Status
     requires { ForSome (command_of words.now) (MayRead (F.seen files.old)) }
-    ensures is_answer { IsAnswer (F.seen files.old) (F.seen files.new) (command_of words.now) (stops result) }
+    ensures performed { Performed (command_of words.now) (F.seen files.old) (F.seen files.new) result
+        (sinks (O.seen out.old) (N.seen notes.old) (Q.seen order.old))
+        (sinks (O.seen out.new) (N.seen notes.new) (Q.seen order.new)) }
     ensures ends { EndsGiven result (F.seen files.old).ends (F.seen files.new).ends }
     ensures keeps { Keeps (F.seen files.old) (F.seen files.new) }
-    ensures no_write { result ≢ Status.WriteFault }
 {
     match command(words) {
         None => Status::Usage,
         Some(command) => match prepare(alloc, &command, files) {
-            // an END line is one step, and ends the run
-            Ok(_prepared) => Status::Done,
+            Ok(machine) => run(machine, command.steps, out, notes, order),
             Err(status) => status,
         },
     }
@@ -59,6 +67,29 @@ fn conclude<O: Sink, N: Sink, Q: Sink>(
         Ok(()) => status,
         Err(_failed) => Status::WriteFault,
     }
+}
+
+/// Does what the words ask for, and tells its status.
+fn perform<F: Files, O: Sink, N: Sink, Q: Sink>(
+    alloc: Global,
+    words: &Words,
+    files: &mut F,
+    out: &mut O,
+    notes: &mut N,
+    order: &mut Q,
+) -> Status
+    requires { ForSome (command_of words.now) (MayRead (F.seen files.old)) }
+    ensures answered { Answered (command_of words.now) (F.seen files.old) (F.seen files.new) result
+        (sinks (O.seen out.old) (N.seen notes.old) (Q.seen order.old))
+        (sinks (O.seen out.new) (N.seen notes.new) (Q.seen order.new)) }
+    ensures ends { EndsGiven result (F.seen files.old).ends (F.seen files.new).ends }
+    ensures keeps { Keeps (F.seen files.old) (F.seen files.new) }
+{
+    let status = answer(alloc, words, files, out, notes, order);
+    if status == Status::WriteFault {
+        return status;
+    }
+    conclude(status, out, notes, order)
 }
 
 /// Does what the words after the program's name ask for: reads files, runs a program, writes its lines to `out`
@@ -114,6 +145,5 @@ pub fn hybrid<F: Files, O: Sink, N: Sink, Q: Sink>(
     // What the files hold and which may be asked for is as before, and no count fell.
     ensures keeps { Keeps (F.seen files.old) (F.seen files.new) }
 {
-    let status = answer(alloc, words, files);
-    conclude(status, out, notes, order)
+    perform(alloc, words, files, out, notes, order)
 }

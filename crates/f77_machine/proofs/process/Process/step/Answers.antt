@@ -4,7 +4,7 @@ use Rattle.f77_meaning.specs.Event.{Event}
 use Rattle.f77_meaning.specs.Next.{answer_of}
 use Rattle.f77_meaning.specs.Process as meaning
 use Rattle.f77_meaning.specs.Sound.{IsOf}
-use Rattle.f77_meaning.specs.Step.{event_at, statement_event, resumed}
+use Rattle.f77_meaning.specs.Step.{event_at, statement_event, resumed_by}
 use Rattle.f77_machine.specs.Process.{process_of}
 use Rattle.f77_machine.proofs.process.Process.step.Goals as goal
 
@@ -17,6 +17,6 @@ returns-in-Some-clause-is_of g c =
     let event_is = ap (λ found. event_at found p.answers) (sym c.in-Some.ensures.listed) in
     let resumed_is = ap (λ n. n.process) (c.statement.ensures.next [] 0) in
     record {
-      stands = subst (IsOf c.args.program.now) (sym resumed_is) (subst (λ e. IsOf c.args.program.now (resumed e p answer)) event_is (IsOf-resumed c.args.program.now p answer c.requires.sound c.requires.is_of.stands));
+      stands = subst (IsOf c.args.program.now) (sym resumed_is) (subst (λ e. IsOf c.args.program.now (resumed_by e p answer)) event_is (IsOf-resumed c.args.program.now p answer c.requires.sound c.requires.is_of.stands));
       line = c.statement.ensures.line c.requires.is_of.line;
     }
