@@ -1,3 +1,4 @@
+pub mod Complete
 pub mod ItemTurns
 pub mod LineLemmas
 pub mod Numbers

@@ -5,3 +5,13 @@ ghost use Rattle.first_form.specs.Laws.{WhatIsReadIsSpelled, WhatIsSpelledIsRead
 pub fn law_of_reading()
     ensures { WhatIsReadIsSpelled }
 {}
+
+/// A law: what is spelled is read.
+pub fn law_of_spelling()
+    ensures { WhatIsSpelledIsRead }
+{}
+
+/// A law: no text spells two statements.
+pub fn law_of_one_statement()
+    ensures { NoTextSpellsTwoStatements }
+{}
