@@ -1,9 +1,9 @@
 -- What is spelled is read.
-use Rattle.std.proofs.Common.{◌≡◌, ℕ, zero, suc, ◌+◌, ◌≤◌, ◌<◌, ◌^◌, pos, Bool, true, false, ◌==◌, ◌&&◌, nat_lt, if◌then◌else◌, cond, List, [], ◌∷◌, ◌++◌, length, take, drop, Option, Some, None, refl, sym, ap, ◌∙◌, subst, arith, length-append, one-add}
+use Rattle.std.proofs.Common.{◌≡◌, ℕ, zero, suc, ◌+◌, ◌≤◌, ◌<◌, ◌^◌, pos, Bool, true, false, ◌==◌, ◌&&◌, nat_lt, if◌then◌else◌, cond, List, [], ◌∷◌, ◌++◌, length, take, drop, Option, Some, None, Result, Ok, Err, refl, sym, ap, ◌∙◌, subst, arith, length-append, one-add}
 use Rattle.std.proofs.lemmas.Bool.{and_from, and_parts}
 use Rattle.std.proofs.lemmas.List.{append_assoc, append-nil}
 use Rattle.std.proofs.lemmas.Slice.Eq.{bytes_eq-Decides}
-use Rattle.std.specs.Prelude.{codes, IsTrue}
+use Rattle.std.specs.Prelude.{codes, IfOk, ◌↔◌}
 use Rattle.std.specs.Char.{is_ascii_digit}
 use Rattle.std.specs.List.{list_all}
 use Rattle.std.specs.Str.{bytes_eq}
@@ -20,6 +20,7 @@ use Rattle.first_form.specs.Spelling.{Text, Level, Sum, Term, Primary, Spells, p
 use Rattle.first_form.specs.Spelling as spelling
 use Rattle.first_form.specs.Reading.{Outcome, Parser, and_then, ◌>>=◌, ◌>>◌, pure, sees, eat, expect, term_operator, sum_operator, sign, next_operator, after_operator, operator, on_operator, signed, digits, is_number, number_by, number, more_operands, primary, term, sum, sum_within, more_items, items, print_of, statement_of}
 use Rattle.first_form.proofs.Numbers.{number_is}
+use Rattle.first_form.proofs.Sound.{read_is_spelled}
 use Rattle.first_form.proofs.Turns.{no_turn, one_turn}
 
 bind : {A B : Type 0} (o : Outcome A) (f : A → Parser B) (a : A) (j : Text) → o ≡ Some (a, j) → and_then o f ≡ f a j
@@ -244,3 +245,8 @@ one_statement text one other h g =
     let q = spelled_is_read text other g in
     let e : Some one ≡ Some other = sym p ∙ q in
     cc
+
+-- what is read, and what is spelled, of an outcome that is read
+pub read_or_not : {E : Type 0} (text : Text) (r : Result (Option Stmt) E) → IfOk r (λ s. s ≡ statement_of text) → IfOk r (λ s. (one : Stmt) → (s ≡ Some one) ↔ SpellsLine text one)
+read_or_not text (Ok s) h = λ one. ((λ e. read_is_spelled text one (sym h ∙ e)), (λ g. h ∙ spelled_is_read text one g))
+read_or_not text (Err e) h = tt
