@@ -41,8 +41,8 @@ module _ (one : Parser Expr) where
   item_last whole found all a i j r t read is no_comma at =
       let w = turned whole found i t in
       w.2 ∙ ap (λ x. and_then x (λ a j. Next w.0 (found ++ item.Plain a ∷ []) (sees 44 j) (after 44 j))) read
-          ∙ ap (λ c. Next w.0 (found ++ item.Plain a ∷ []) c (after 44 j)) no_comma
-          ∙ ap (λ x. Some (x, after 44 j)) (sym is) ∙ ap (λ x. Some (all, x)) (sym at)
+      ∙ ap (λ c. Next w.0 (found ++ item.Plain a ∷ []) c (after 44 j)) no_comma
+      ∙ ap (λ x. Some (x, after 44 j)) (sym is) ∙ ap (λ x. Some (all, x)) (sym at)
 
   pub item_more : (whole : Outcome (List Item)) (found all : List Item) (a : Expr) (i j r : Text) → Turns whole (λ n. more_items one n found i) (suc (length i)) → one i ≡ Some (a, j) → length j ≤ length i → all ≡ found ++ item.Plain a ∷ [] → sees 44 j ≡ true → r ≡ after 44 j → Turns whole (λ n. more_items one n all r) (suc (length r))
   item_more whole found all a i j r t read le is comma at =

@@ -1,3 +1,5 @@
+pub mod Accepted
+pub mod Complete
 pub mod ItemTurns
 pub mod LineLemmas
 pub mod Numbers

@@ -34,7 +34,7 @@ digits_all (c ∷ i) = by (digits_all i) (is_ascii_digit c) refl
     by all true e = rw (e, one-add, e) all
     by all false e = rw e refl
 
-number_is : (s : Text) → 0 < length s → value_of s < 2 ^ 63 → is_number s ≡ true
+pub number_is : (s : Text) → 0 < length s → value_of s < 2 ^ 63 → is_number s ≡ true
 number_is s some fits = and_from (nat_lt 0 (length s)) (nat_lt (value_of s) (2 ^ 63)) (grind (arith, some)) (grind (arith, fits))
 
 number_isnt : (s : Text) → ¬ ((0 < length s) × (value_of s < 2 ^ 63)) → is_number s ≡ false

@@ -153,17 +153,17 @@ scans (line ∷ rest) pre keeps =
     ∙ ap (λ t. if t then Ruled (pre ++ line ∷ []) rest else refused (length pre + 1) 21) (keeps_is pre line keeps ∙ ap (λ t. t && is_statement line && not (ends_in_end pre)) (within_not (length pre + 1) statement_limit) ∙ ap (λ t. not (nat_lt statement_limit (length pre + 1)) && t && not (ends_in_end pre)) (sym (there (length pre + 1) line)))
     ∙ step_by (length pre + 1) (ends_in_end pre) (nat_lt statement_limit (length pre + 1)) (listed_of (length pre + 1) line) (listing_of 1 pre) rest (Ruled (pre ++ line ∷ []) rest)
     (λ one no_end small here.
-      let more : Keeps pre line ≡ true =
-          keeps_is pre line keeps
-          ∙ and_from (nat_le (length pre + 1) statement_limit && is_statement line) (not (ends_in_end pre))
-          (and_from (nat_le (length pre + 1) statement_limit) (is_statement line) (within_not (length pre + 1) statement_limit ∙ ap not small) (sym (there (length pre + 1) line) ∙ ap is_some here))
-          (ap not no_end) in
-      let n : length (pre ++ line ∷ []) ≡ length pre + 1 = length-append pre (line ∷ []) in
-      let k : length pre + 1 ≡ 1 + length pre = omega arith in
-      scans rest (pre ++ line ∷ []) more
-      ∙ ap (λ m. scan (m + 1) (ends_in_end (pre ++ line ∷ [])) (listing_of 1 (pre ++ line ∷ [])) rest) n
-      ∙ ap (λ t. scan (length pre + 1 + 1) t (listing_of 1 (pre ++ line ∷ [])) rest) (last_more pre line ∙ ends (length pre + 1) line one here)
-      ∙ ap (λ x. scan (length pre + 1 + 1) (is_end one.card.text) x rest) (listing_more 1 pre line one (ap (λ m. listed_of m line) (sym k) ∙ here)))
+    let more : Keeps pre line ≡ true =
+    keeps_is pre line keeps
+    ∙ and_from (nat_le (length pre + 1) statement_limit && is_statement line) (not (ends_in_end pre))
+    (and_from (nat_le (length pre + 1) statement_limit) (is_statement line) (within_not (length pre + 1) statement_limit ∙ ap not small) (sym (there (length pre + 1) line) ∙ ap is_some here))
+    (ap not no_end) in
+    let n : length (pre ++ line ∷ []) ≡ length pre + 1 = length-append pre (line ∷ []) in
+    let k : length pre + 1 ≡ 1 + length pre = omega arith in
+    scans rest (pre ++ line ∷ []) more
+    ∙ ap (λ m. scan (m + 1) (ends_in_end (pre ++ line ∷ [])) (listing_of 1 (pre ++ line ∷ [])) rest) n
+    ∙ ap (λ t. scan (length pre + 1 + 1) t (listing_of 1 (pre ++ line ∷ [])) rest) (last_more pre line ∙ ends (length pre + 1) line one here)
+    ∙ ap (λ x. scan (length pre + 1 + 1) (is_end one.card.text) x rest) (listing_more 1 pre line one (ap (λ m. listed_of m line) (sym k) ∙ here)))
 
 -- what the rules make of lines is what one pass makes of them
 pub scanned : (lines : List (List ℕ)) → ruled_of (first_break lines) lines ≡ scan 1 false [] lines

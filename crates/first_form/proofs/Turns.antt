@@ -24,7 +24,7 @@ after_within (Some o) (b ∷ i) = omega arith
 
 module _ (operand : Parser Expr) (which : ℕ → Option Op) where
   -- no operator comes next
-  no_turn : (n : ℕ) (a : Expr) (i : Text) → next_operator which i ≡ None → more_operands operand which n a i ≡ Some (a, i)
+  pub no_turn : (n : ℕ) (a : Expr) (i : Text) → next_operator which i ≡ None → more_operands operand which n a i ≡ Some (a, i)
   unfolding more_operands
   no_turn zero a i e = refl
   no_turn (suc n) a i e = rw e refl
@@ -33,7 +33,7 @@ module _ (operand : Parser Expr) (which : ℕ → Option Op) where
   ended whole a i j t none e = rw (e, none) (t.same ∙ no_turn t.turns a i none)
 
   -- an operator comes next
-  one_turn : (n : ℕ) (a : Expr) (i : Text) (o : Op) → next_operator which i ≡ Some o → more_operands operand which (suc n) a i ≡ and_then (operand (after_operator (Some o) i)) (λ right. more_operands operand which n (expr.Binary o a right))
+  pub one_turn : (n : ℕ) (a : Expr) (i : Text) (o : Op) → next_operator which i ≡ Some o → more_operands operand which (suc n) a i ≡ and_then (operand (after_operator (Some o) i)) (λ right. more_operands operand which n (expr.Binary o a right))
   unfolding more_operands
   one_turn n a i o e = rw e refl
 

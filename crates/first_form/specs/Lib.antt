@@ -4,4 +4,5 @@ pub mod Laws
 pub mod Lines
 pub mod Read
 pub mod Reading
+pub mod Sound
 pub mod Spelling

@@ -1,4 +1,6 @@
 //! The form of programs so far: lines of PRINT, and END as the last line.
+//!
+//! Read by recursive descent, a function for each rule of the grammar, and proved to be what the grammar spells.
 #![tactic(auto)]
 
 pub mod columns;
@@ -8,4 +10,6 @@ pub mod lines;
 mod reader;
 pub mod statement;
 mod sums;
+#[cfg(test)]
+mod tests;
 mod unread;

@@ -1,7 +1,9 @@
 //! Statements: PRINT and END.
-ghost use Rattle.std.specs.Prelude.{◌≡◌, ◌≤◌, length, IfOk};
+ghost use Rattle.std.specs.Prelude.{◌≡◌, ◌↔◌, IfOk, Some};
+ghost use Rattle.f77_ast.specs.declared.stmt.Stmt.{Stmt};
 ghost use Rattle.first_form.specs.Read.{Reads};
 ghost use Rattle.first_form.specs.Reading as spec;
+ghost use Rattle.first_form.specs.Spelling.{SpellsLine};
 
 use crate::reader::Reader;
 use crate::sums::sum_within;
@@ -38,10 +40,9 @@ fn print(alloc: Global, list: &[u8], depth: usize) -> Result<Option<Stmt>, NoMem
     }
 }
 
-/// The statement that a text without blanks spells: `PRINT*,` and one or more sums with commas between, or `END`
-/// (ANSI X3.9-1978, sections 12.8 and 11.14). None exactly where it spells no statement.
-pub fn statement(alloc: Global, text: &[u8]) -> Result<Option<Stmt>, NoMemory>
-    ensures value { IfOk result (λ s. s ≡ spec.statement_of text.now) }
+/// The statement that is read of a text.
+fn read(alloc: Global, text: &[u8]) -> Result<Option<Stmt>, NoMemory>
+    ensures { IfOk result (λ s. s ≡ spec.statement_of text.now) }
 {
     if text == b"END".as_slice() {
         return Ok(Some(Stmt::End));
@@ -50,4 +51,13 @@ pub fn statement(alloc: Global, text: &[u8]) -> Result<Option<Stmt>, NoMemory>
         Some(list) => print(alloc, list, text.len()),
         None => Ok(None),
     }
+}
+
+/// The statement that a text without blanks spells: `PRINT*,` and one or more sums with commas between, or `END`
+/// (ANSI X3.9-1978, sections 12.8 and 11.14). None exactly where it spells no statement.
+pub fn statement(alloc: Global, text: &[u8]) -> Result<Option<Stmt>, NoMemory>
+    ensures value { IfOk result (λ s. s ≡ spec.statement_of text.now) }
+    ensures spelled { IfOk result (λ s. (one : Stmt) → (s ≡ Some one) ↔ SpellsLine text.now one) }
+{
+    read(alloc, text)
 }

@@ -1,16 +1,5 @@
-use Rattle.std.proofs.Common.{rules, arith}
-use Rattle.std.proofs.lemmas.Grind.{common_steps}
-use Rattle.first_form.specs.Reading.{statement_of}
+use Rattle.first_form.proofs.Complete.{read_or_not}
 use Rattle.first_form.proofs.statement.statement.Goals as goal
 
-pub returns-then-eq : goal.returns-then-eq
-unfolding statement_of
-returns-then-eq c = first_of (search rules, grind (arith, common_steps))
-
-pub returns-in-Some : goal.returns-in-Some
-unfolding statement_of
-returns-in-Some c = first_of (search rules, grind (arith, common_steps))
-
-pub returns-in-None : goal.returns-in-None
-unfolding statement_of
-returns-in-None c = first_of (search rules, grind (arith, common_steps))
+pub returns-clause-spelled : goal.returns-clause-spelled
+returns-clause-spelled c = read_or_not c.args.text.now c.read.result c.read.ensures

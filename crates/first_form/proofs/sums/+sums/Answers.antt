@@ -40,11 +40,11 @@ pub term-loop-operator-preserved : goal.term-loop-operator-preserved
 term-loop-operator-preserved t c = record {
   rest = turn_goes (primary (sum_within c.args.depth)) term_operator (term (sum_within c.args.depth) c.args.reader.now) c.loop-operator.left c.in_ok-right.right c.in_ok-left-2.left c.loop-operator.reader c.term_operator.new.self c.primary-in-Some.new.reader c.in-Some.operator c.in_ok-left-2.ensures c.loop-operator.invariant.rest (sym c.in-Some.ensures.found) c.in-Some.ensures.after c.in_ok-right.ensures.value c.in_ok-right.ensures.shorter;
   shorter = (
-    let w = after_within (next_operator term_operator c.loop-operator.reader) c.loop-operator.reader in
-    let e : length c.term_operator.new.self ≡ length (after_operator (next_operator term_operator c.loop-operator.reader) c.loop-operator.reader) = ap length c.in-Some.ensures.after in
-    let l : length c.primary-in-Some.new.reader ≤ length c.term_operator.new.self = c.in_ok-right.ensures.shorter in
-    let k = c.loop-operator.invariant.shorter in
-    omega arith);
+      let w = after_within (next_operator term_operator c.loop-operator.reader) c.loop-operator.reader in
+      let e : length c.term_operator.new.self ≡ length (after_operator (next_operator term_operator c.loop-operator.reader) c.loop-operator.reader) = ap length c.in-Some.ensures.after in
+      let l : length c.primary-in-Some.new.reader ≤ length c.term_operator.new.self = c.in_ok-right.ensures.shorter in
+      let k = c.loop-operator.invariant.shorter in
+      omega arith);
 }
 
 pub term-returns-clause-value : goal.term-returns-clause-value
@@ -60,10 +60,10 @@ pub sum-loop-operator-init : goal.sum-loop-operator-init
 sum-loop-operator-init t c = record {
   rest = sum_starts (sum_within c.args.depth) c.args.reader.now c.sign-sign.new.self c.term.new.reader c.sign-sign.result c.in_ok-first.first c.in_ok-left.left c.sign-sign.ensures.found c.in_ok-left.ensures c.sign-sign.ensures.after c.in_ok-first.ensures.value;
   shorter = (
-    let w = after_within (next_operator sign c.args.reader.now) c.args.reader.now in
-    let e : length c.sign-sign.new.self ≡ length (after_operator (next_operator sign c.args.reader.now) c.args.reader.now) = ap length c.sign-sign.ensures.after in
-    let l : length c.term.new.reader ≤ length c.sign-sign.new.self = c.in_ok-first.ensures.shorter in
-    omega arith);
+      let w = after_within (next_operator sign c.args.reader.now) c.args.reader.now in
+      let e : length c.sign-sign.new.self ≡ length (after_operator (next_operator sign c.args.reader.now) c.args.reader.now) = ap length c.sign-sign.ensures.after in
+      let l : length c.term.new.reader ≤ length c.sign-sign.new.self = c.in_ok-first.ensures.shorter in
+      omega arith);
 }
 
 pub sum-returns-in_err-right-clause-value : goal.sum-returns-in_err-right-clause-value
@@ -75,11 +75,11 @@ pub sum-loop-operator-preserved : goal.sum-loop-operator-preserved
 sum-loop-operator-preserved t c = record {
   rest = turn_goes (term (sum_within c.args.depth)) sum_operator (sum (sum_within c.args.depth) c.args.reader.now) c.loop-operator.left c.in_ok-right.right c.in_ok-left-2.left c.loop-operator.reader c.sum_operator.new.self c.term-in-Some.new.reader c.in-Some.operator c.in_ok-left-2.ensures c.loop-operator.invariant.rest (sym c.in-Some.ensures.found) c.in-Some.ensures.after c.in_ok-right.ensures.value c.in_ok-right.ensures.shorter;
   shorter = (
-    let w = after_within (next_operator sum_operator c.loop-operator.reader) c.loop-operator.reader in
-    let e : length c.sum_operator.new.self ≡ length (after_operator (next_operator sum_operator c.loop-operator.reader) c.loop-operator.reader) = ap length c.in-Some.ensures.after in
-    let l : length c.term-in-Some.new.reader ≤ length c.sum_operator.new.self = c.in_ok-right.ensures.shorter in
-    let k = c.loop-operator.invariant.shorter in
-    omega arith);
+      let w = after_within (next_operator sum_operator c.loop-operator.reader) c.loop-operator.reader in
+      let e : length c.sum_operator.new.self ≡ length (after_operator (next_operator sum_operator c.loop-operator.reader) c.loop-operator.reader) = ap length c.in-Some.ensures.after in
+      let l : length c.term-in-Some.new.reader ≤ length c.sum_operator.new.self = c.in_ok-right.ensures.shorter in
+      let k = c.loop-operator.invariant.shorter in
+      omega arith);
 }
 
 pub sum-returns-clause-value : goal.sum-returns-clause-value
