@@ -12,11 +12,11 @@ ghost use Rattle.hybrid_top.specs.Reading.{IsWhole, Keeps, file_limit};
 
 use crate::command::RunCommand;
 use crate::machine::{Machine, at_start};
-use first_form::front::front;
 use crate::read_file::{ReadError, read_file};
 use crate::status::Status;
 use f77_ast::program::Program;
 use f77_ast::refusal::FrontError;
+use first_form::front::front;
 use hyb_base::bytes::Bytes;
 use hyb_base::no_memory::NoMemory;
 use hyb_outside::files::Files;

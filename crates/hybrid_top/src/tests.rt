@@ -2,7 +2,7 @@
 
 use crate::hybrid;
 use crate::status::Status;
-use f77_ast::refusal::Refusal;
+use f77_ast::refusal::{Fault, Refusal};
 use hyb_base::bytes::Bytes;
 use hyb_base::no_memory::NoMemory;
 use hyb_base::words::Words;
@@ -131,10 +131,17 @@ const NONE: Fails = Fails {
     notes: 0,
 };
 
-/// Whether a program alone gives what is wanted.
-fn program_gives(alloc: Global, program: &[u8], want: Want<'_>) -> Result<bool, NoMemory> {
+/// Whether a program alone, run for so many steps, gives what is wanted.
+fn program_gives(
+    alloc: Global,
+    program: &[u8],
+    steps: &[u8],
+    wanted: Want<'_>,
+) -> Result<bool, NoMemory> {
     let all: [File<'_>; 3] = [(b"P", program), (b"I", b""), (b"S", b"")];
-    gives(alloc, b"run P I S 1", &all, NONE, want)
+    let mut text = Bytes::from_slice(alloc, b"run P I S ")?;
+    text.push_slice(steps)?;
+    gives(alloc, text.as_slice(), &all, NONE, wanted)
 }
 
 /// The refusal of a line by a rule.
@@ -143,33 +150,206 @@ const fn refused(line: u32, code: u8) -> Status {
 }
 
 #[test]
-fn programs(rt: HostRuntime) -> Result<(), Fail> {
-    let cases: [(&[u8], Status, &[u8]); 16] = [
-        (b"      END\n", Status::Done, b""),
-        (b"      END", Status::Done, b""),
-        (b"       E ND  \n", Status::Done, b""),
-        (b"", refused(1, 54), b"REFUSED 1 54\n"),
-        (b"\n", refused(1, 21), b"REFUSED 1 21\n"),
-        (b"      PRINT *, 7\n", refused(1, 21), b"REFUSED 1 21\n"),
-        (b"END\n", refused(1, 21), b"REFUSED 1 21\n"),
-        (b"10    END\n", refused(1, 21), b"REFUSED 1 21\n"),
-        (b"     1END\n", refused(1, 21), b"REFUSED 1 21\n"),
-        (b"      end\n", refused(1, 21), b"REFUSED 1 21\n"),
-        (b"      END\r\n", refused(1, 21), b"REFUSED 1 21\n"),
-        (b"      ENDE\n", refused(1, 21), b"REFUSED 1 21\n"),
-        (b"      END\n      END\n", refused(2, 21), b"REFUSED 2 21\n"),
-        (b"      END\n\n", refused(2, 21), b"REFUSED 2 21\n"),
-        (b"\tEND\n", refused(1, 1), b"REFUSED 1 1\n"),
+fn refusals(rt: HostRuntime) -> Result<(), Fail> {
+    let cases: [(&[u8], u32, u8, &[u8]); 17] = [
+        (b"", 1, 54, b"REFUSED 1 54\n"),
+        (b"      PRINT *, 7\n", 1, 54, b"REFUSED 1 54\n"),
         (
-            b"      X\n      END\n      END\t\n",
-            refused(3, 1),
-            b"REFUSED 3 1\n",
+            b"      PRINT *, 7\n      PRINT *, 8",
+            2,
+            54,
+            b"REFUSED 2 54\n",
+        ),
+        (b"\n", 1, 21, b"REFUSED 1 21\n"),
+        (b"END\n", 1, 21, b"REFUSED 1 21\n"),
+        (b"10    END\n", 1, 21, b"REFUSED 1 21\n"),
+        (b"     1END\n", 1, 21, b"REFUSED 1 21\n"),
+        (b"      end\n", 1, 21, b"REFUSED 1 21\n"),
+        (b"      END\r\n", 1, 21, b"REFUSED 1 21\n"),
+        (b"      ENDE\n", 1, 21, b"REFUSED 1 21\n"),
+        (b"      PRINT *\n      END\n", 1, 21, b"REFUSED 1 21\n"),
+        (
+            b"      PRINT *, 1\n      I = 1\n      END\n",
+            2,
+            21,
+            b"REFUSED 2 21\n",
+        ),
+        (
+            b"      PRINT *, 9223372036854775808\n      END\n",
+            1,
+            21,
+            b"REFUSED 1 21\n",
+        ),
+        (b"      END\n      END\n", 2, 21, b"REFUSED 2 21\n"),
+        (b"      END\n\n", 2, 21, b"REFUSED 2 21\n"),
+        (b"\tEND\n", 1, 1, b"REFUSED 1 1\n"),
+        (b"      X\n      END\n      END\t\n", 3, 1, b"REFUSED 3 1\n"),
+    ];
+    for (at, (program, line, code, notes)) in cases.iter().enumerate() {
+        let wanted = no_lines(refused(*line, *code), notes);
+        assert!(rt;
+            program_gives(rt.alloc(), program, b"1", wanted)?,
+            "program {at}"
+        );
+    }
+    Ok(())
+}
+
+#[test]
+fn runs(rt: HostRuntime) -> Result<(), Fail> {
+    let cases: [(&[u8], &[u8], Status, &[u8], &[u8]); 17] = [
+        (b"      END\n", b"1", Status::Done, b"", b""),
+        (b"       E ND  ", b"2", Status::Done, b"", b""),
+        // one step a line, and one for END: exact, one more and one short
+        (
+            b"      PRINT *, 7\n      END\n",
+            b"2",
+            Status::Done,
+            b" 7\n",
+            b"",
+        ),
+        (
+            b"      PRINT *, 7\n      END\n",
+            b"3",
+            Status::Done,
+            b" 7\n",
+            b"",
+        ),
+        (
+            b"      PRINT *, 7\n      END\n",
+            b"1",
+            Status::StepsSpent,
+            b" 7\n",
+            b"STEPS SPENT\n",
+        ),
+        (
+            b"      PRINT*,1,2\n      PRINT*,3\n      END",
+            b"3",
+            Status::Done,
+            b" 1 2\n 3\n",
+            b"",
+        ),
+        // precedence and grouping
+        (
+            b"      PRINT *, 1 + 2*3, (1 + 2)*3, 7 - 2 - 1, 7 - (2 - 1)\n      END\n",
+            b"2",
+            Status::Done,
+            b" 7 9 4 6\n",
+            b"",
+        ),
+        (
+            b"      PRINT *, 100/10/5, 100/(10/5), 2*7/3, 2*(7/3)\n      END\n",
+            b"2",
+            Status::Done,
+            b" 2 50 4 4\n",
+            b"",
+        ),
+        (
+            b"      PRINT *, -2*3 + 1, -(2 + 3), +4, -3 - 4\n      END\n",
+            b"2",
+            Status::Done,
+            b" -5 -5 4 -7\n",
+            b"",
+        ),
+        // quotients without their fraction
+        (
+            b"      PRINT *, -7/2, 7/(-2), -7/(-2), (-7)/2, 0/5\n      END\n",
+            b"2",
+            Status::Done,
+            b" -3 -3 3 -3 0\n",
+            b"",
+        ),
+        // at the ends of 64 bits: the least number, that by -1, and products that wrap
+        (
+            b"      PRINT *, 9223372036854775807 + 1, -9223372036854775807 - 1\n      END\n",
+            b"2",
+            Status::Done,
+            b" -9223372036854775808 -9223372036854775808\n",
+            b"",
+        ),
+        (
+            b"      PRINT *, (9223372036854775807 + 1)/(-1)\n      END\n",
+            b"2",
+            Status::Done,
+            b" -9223372036854775808\n",
+            b"",
+        ),
+        (
+            b"      PRINT *, 4294967296*4294967296, 9223372036854775807*2\n      END\n",
+            b"2",
+            Status::Done,
+            b" 0 -2\n",
+            b"",
+        ),
+        (
+            b"      PRINT *, 000000000000000000000000012\n      END\n",
+            b"2",
+            Status::Done,
+            b" 12\n",
+            b"",
+        ),
+        // a fault in the second of three items: nothing of that line
+        (
+            b"      PRINT *, 5\n      PRINT *, 1, 1/0, 2\n      END\n",
+            b"9",
+            Status::Faulted(Fault::ZeroDivisor, 2),
+            b" 5\n",
+            b"FAULT 1 LINE 2\n",
+        ),
+        (
+            b"      PRINT *, 5\n      PRINT *, 1/(3 - 3)\n      END\n",
+            b"2",
+            Status::Faulted(Fault::ZeroDivisor, 2),
+            b" 5\n",
+            b"FAULT 1 LINE 2\n",
+        ),
+        (
+            b"      PRINT *, 5\n      PRINT *, 1/0\n      END\n",
+            b"1",
+            Status::StepsSpent,
+            b" 5\n",
+            b"STEPS SPENT\n",
         ),
     ];
-    for (at, (program, status, notes)) in cases.iter().enumerate() {
+    for (at, (program, steps, status, out, notes)) in cases.iter().enumerate() {
+        let wanted = Want {
+            status: *status,
+            out,
+            notes,
+        };
         assert!(rt;
-            program_gives(rt.alloc(), program, no_lines(*status, notes))?,
-            "program {at}"
+            program_gives(rt.alloc(), program, steps, wanted)?,
+            "run {at}"
+        );
+    }
+    Ok(())
+}
+
+/// Three files, the program of which prints two lines.
+const TWO_LINES: [File<'static>; 3] = [
+    (b"P", b"      PRINT *, 1\n      PRINT *, 2\n      END\n"),
+    (b"I", b""),
+    (b"S", b""),
+];
+
+#[test]
+fn failing_lines(rt: HostRuntime) -> Result<(), Fail> {
+    let taken: [(u64, &[u8], Status); 4] = [
+        (1, b"", Status::WriteFault),
+        (2, b" 1\n", Status::WriteFault),
+        (3, b" 1\n 2\n", Status::Done),
+        (0, b" 1\n 2\n", Status::Done),
+    ];
+    for (call, out, status) in taken {
+        let fails = Fails { out: call, ..NONE };
+        let wanted = Want {
+            status,
+            out,
+            notes: b"",
+        };
+        assert!(rt;
+            gives(rt.alloc(), b"run P I S 3", &TWO_LINES, fails, wanted)?,
+            "call {call}"
         );
     }
     Ok(())
