@@ -10,3 +10,5 @@ mod number;
 mod print;
 pub mod process;
 pub mod store;
+#[cfg(test)]
+mod tests;
