@@ -1,12 +1,11 @@
 -- Lemmas on what a run shows.
-use Rattle.std.proofs.Common.{◌≡◌, ◌≢◌, ℕ, ℤ, List, [], ◌∷◌, ◌++◌, map, refl, sym, ap, ◌∙◌, subst}
+use Rattle.std.proofs.Common.{◌≡◌, ◌≢◌, ℕ, ℤ, List, [], ◌∷◌, map, refl, sym, ◌∙◌, subst}
 use Rattle.hyb_outside.specs.declared.pieces.To.{To}
-use Rattle.hyb_outside.specs.FilesSeen.{FilesSeen}
-use Rattle.hyb_outside.specs.Pieces.{Piece, TakesAll, StopsIn}
+use Rattle.hyb_outside.specs.Pieces.{TakesAll, StopsIn}
 use Rattle.hyb_outside.specs.Seen.{Seen}
 use Rattle.hyb_outside.proofs.Emits.{takes_all_nil, takes_all_then, stops_first, stops_then}
 use Rattle.f77_meaning.specs.Run.{Run, End, stopped as run_stopped, one_more, printed}
-use Rattle.hybrid_top.specs.Answer.{Answer, stops, status_of, ran, line_piece, status_pieces, pieces_of, Shows, shown, stopped, Gives, whole, cut}
+use Rattle.hybrid_top.specs.Answer.{Answer, stops, status_of, ran, line_piece, status_pieces, Shows, shown, stopped, Gives, whole, cut}
 use Rattle.hybrid_top.specs.declared.status.Status.{Status}
 use Rattle.hybrid_top.specs.declared.status.Status.TheVariants as status
 

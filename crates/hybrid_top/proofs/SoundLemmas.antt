@@ -1,15 +1,14 @@
 -- An accepted program is sound.
-use Rattle.std.proofs.Common.{◌≡◌, ℕ, suc, ◌+◌, List, [], ◌∷◌, ◌++◌, length, Bool, true, false, ◌&&◌, Option, None, Some, Result, Ok, refl, sym, ap, ◌∙◌, subst, if◌then◌else◌}
-use Rattle.std.specs.Prelude.{max, codes}
-use Rattle.std.specs.Str.{bytes_eq}
+use Rattle.std.proofs.Common.{◌≡◌, ℕ, ◌+◌, List, [], ◌∷◌, length, Bool, true, false, ◌&&◌, Option, None, Some, Result, Ok, refl, ap, subst, if◌then◌else◌}
+use Rattle.std.specs.Prelude.{max}
 use Rattle.f77_ast.specs.declared.program.Listed.{Listed}
 use Rattle.f77_ast.specs.declared.program.Program.{Program}
 use Rattle.f77_ast.specs.declared.refusal.Refusal.{Refusal}
-use Rattle.f77_ast.specs.declared.stmt.Stmt.{Stmt, End}
+use Rattle.f77_ast.specs.declared.stmt.Stmt.{End}
 use Rattle.f77_meaning.specs.Sound.{EndsWithEnd, IsSound}
 use Rattle.f77_meaning.proofs.Sound.{one_unit_is_sound}
 use Rattle.first_form.specs.Columns.{has_tab, is_in_columns, text_of}
-use Rattle.first_form.specs.FirstForm.{listed_of, listed_by, is_end, is_end_line, with_listed, listing_of, program_of, refused, ended_of, ruled_of, tabbed_of, front_of, first_passing, first_break, ends_in_end}
+use Rattle.first_form.specs.FirstForm.{listed_of, is_end, is_end_line, with_listed, listing_of, program_of, refused, ended_of, ruled_of, tabbed_of, front_of, first_passing, first_break, ends_in_end}
 use Rattle.first_form.specs.Lines.{lines_of}
 use Rattle.first_form.specs.Reading.{statement_of}
 

@@ -1,12 +1,12 @@
 -- Lemmas on the top call.
-use Rattle.std.proofs.Common.{◌≡◌, ◌≢◌, ℕ, Some, Option, refl, sym, ap, ◌∙◌, subst}
+use Rattle.std.proofs.Common.{◌≡◌, ◌≢◌, Some, Option, refl}
 use Rattle.hyb_outside.specs.declared.pieces.To.{To}
 use Rattle.hyb_outside.specs.FilesSeen.{FilesSeen}
 use Rattle.hyb_outside.specs.Seen.{Seen}
 use Rattle.f77_meaning.specs.Run.{run_from, sequential_run}
 use Rattle.f77_machine.specs.Process.{process_of}
 use Rattle.f77_machine.specs.Store.{values_of}
-use Rattle.hybrid_top.specs.Answer.{Answer, stops, ran, IsAnswer, run, Shows, Gives, Performed, Answered}
+use Rattle.hybrid_top.specs.Answer.{stops, ran, IsAnswer, run, Shows, Gives, Performed, Answered}
 use Rattle.hybrid_top.specs.Command.{RunRequest}
 use Rattle.hybrid_top.specs.Prepared.{IsPrepared}
 use Rattle.hybrid_top.specs.declared.machine.Machine.{Machine}

@@ -1,4 +1,4 @@
-use Rattle.std.proofs.Common.{◌≡◌, ℕ, refl, arith}
+use Rattle.std.proofs.Common.{◌≡◌, arith}
 use Rattle.f77_machine.specs.Store.{values_of}
 use Rattle.f77_meaning.specs.Run as run
 use Rattle.hybrid_top.proofs.RunLemmas.{came_short, came_empty, came_printed, came_cut, came_ended, came_faulted, came_on}
