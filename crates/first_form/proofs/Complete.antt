@@ -1,12 +1,10 @@
 -- What is spelled is read.
-use Rattle.std.proofs.Common.{◌≡◌, ℕ, zero, suc, ◌+◌, ◌≤◌, ◌<◌, ◌^◌, pos, Bool, true, false, ◌==◌, ◌&&◌, nat_lt, if◌then◌else◌, cond, List, [], ◌∷◌, ◌++◌, length, take, drop, Option, Some, None, Result, Ok, Err, refl, sym, ap, ◌∙◌, subst, arith, length-append, one-add}
-use Rattle.std.proofs.lemmas.Bool.{and_from, and_parts}
+use Rattle.std.proofs.Common.{◌≡◌, ℕ, zero, suc, ◌+◌, ◌≤◌, ◌<◌, ◌^◌, pos, Bool, true, false, ◌==◌, if◌then◌else◌, List, [], ◌∷◌, ◌++◌, length, take, drop, Option, Some, None, Result, Ok, Err, refl, sym, ap, ◌∙◌, arith, length-append}
+use Rattle.std.proofs.lemmas.Bool.{and_parts}
 use Rattle.std.proofs.lemmas.List.{append_assoc, append-nil}
-use Rattle.std.proofs.lemmas.Slice.Eq.{bytes_eq-Decides}
 use Rattle.std.specs.Prelude.{codes, IfOk, ◌↔◌}
 use Rattle.std.specs.Char.{is_ascii_digit}
 use Rattle.std.specs.List.{list_all}
-use Rattle.std.specs.Str.{bytes_eq}
 use Rattle.hyb_base.specs.Decimal.{IsDigits, value_of}
 use Rattle.f77_ast.specs.declared.expr.Expr.{Expr}
 use Rattle.f77_ast.specs.declared.expr.Expr.TheVariants as expr
@@ -18,7 +16,7 @@ use Rattle.f77_ast.specs.declared.stmt.Stmt.{Stmt}
 use Rattle.f77_ast.specs.declared.stmt.Stmt.TheVariants as stmt
 use Rattle.first_form.specs.Spelling.{Text, Level, Sum, Term, Primary, Spells, parentheses, single, product, quotient, unsigned, plus, minus, addition, subtraction, SpellsItems, last, more, SpellsLine, print, end}
 use Rattle.first_form.specs.Spelling as spelling
-use Rattle.first_form.specs.Reading.{Outcome, Parser, and_then, ◌>>=◌, ◌>>◌, pure, sees, eat, expect, term_operator, sum_operator, sign, next_operator, after_operator, operator, on_operator, signed, digits, is_number, number_by, number, more_operands, primary, term, sum, sum_within, more_items, items, print_of, statement_of}
+use Rattle.first_form.specs.Reading.{Outcome, Parser, and_then, ◌>>=◌, ◌>>◌, pure, sees, eat, expect, term_operator, sum_operator, sign, next_operator, after_operator, signed, digits, number, more_operands, primary, term, sum, sum_within, more_items, items, print_of, statement_of}
 use Rattle.first_form.proofs.Numbers.{number_is}
 use Rattle.first_form.proofs.Sound.{read_is_spelled}
 use Rattle.first_form.proofs.Turns.{no_turn, one_turn}

@@ -1,10 +1,10 @@
 -- The turns of the loop that reads items: while a comma comes next.
-use Rattle.std.proofs.Common.{◌≡◌, ℕ, zero, suc, ◌≤◌, ◌<◌, ◌+◌, Bool, true, false, if◌then◌else◌, List, [], ◌∷◌, ◌++◌, length, drop, Some, None, refl, sym, ap, ◌∙◌, arith}
+use Rattle.std.proofs.Common.{◌≡◌, ℕ, zero, suc, ◌≤◌, ◌<◌, Bool, true, false, if◌then◌else◌, List, [], ◌∷◌, ◌++◌, length, Some, None, refl, sym, ap, ◌∙◌, arith}
 use Rattle.f77_ast.specs.declared.expr.Expr.{Expr}
 use Rattle.f77_ast.specs.declared.stmt.Item.{Item}
 use Rattle.f77_ast.specs.declared.stmt.Item.TheVariants as item
 use Rattle.first_form.specs.Spelling.{Text}
-use Rattle.first_form.specs.Reading.{Outcome, Parser, and_then, ◌>>=◌, pure, sees, after, eat, more_items, items}
+use Rattle.first_form.specs.Reading.{Outcome, Parser, and_then, pure, sees, after, more_items, items}
 use Rattle.first_form.proofs.Turns.{Turns}
 
 -- the text after a comma is shorter

@@ -13,7 +13,7 @@ use Rattle.hyb_base.specs.Decimal.{IsDigits, value_of}
 use Rattle.hyb_base.proofs.Decimals.{numerals}
 use Rattle.f77_ast.specs.declared.expr.Expr.TheVariants as expr
 use Rattle.first_form.specs.Spelling.{Text}
-use Rattle.first_form.specs.Reading.{digits, is_number, number_by, number}
+use Rattle.first_form.specs.Reading.{digits, is_number, number}
 
 -- what `parse` gives at digits
 from_parse : {E : Type 0} (bs : List ℕ) (r : Result ℤ E) → IsTrue (list_all is_ascii_digit bs) → OkIff r ((0 < length bs) × (value_of bs < 2 ^ 63)) (pos (value_of bs)) → SomeIff (result_ok r) (IsDigits bs × (value_of bs < 2 ^ 63)) (pos (value_of bs))

@@ -1,5 +1,5 @@
 -- What is read is spelled so.
-use Rattle.std.proofs.Common.{◌≡◌, ℕ, zero, suc, ◌+◌, ◌<◌, ◌^◌, pos, Bool, true, false, ◌==◌, nat_lt, if◌then◌else◌, List, [], ◌∷◌, ◌++◌, length, take, drop, Option, Some, None, refl, sym, ap, ◌∙◌, subst, arith}
+use Rattle.std.proofs.Common.{◌≡◌, ℕ, zero, suc, ◌^◌, pos, Bool, true, false, ◌==◌, nat_lt, if◌then◌else◌, List, [], ◌∷◌, ◌++◌, length, take, drop, Option, Some, None, refl, sym, ap, ◌∙◌, subst}
 use Rattle.std.proofs.lemmas.Bool.{eqb-true, and_parts, ltb-true}
 use Rattle.std.proofs.lemmas.List.{append_assoc, append-nil, take-append-drop}
 use Rattle.std.proofs.lemmas.Slice.Eq.{bytes_eq-Decides}
@@ -16,7 +16,7 @@ use Rattle.f77_ast.specs.declared.stmt.Stmt.{Stmt}
 use Rattle.f77_ast.specs.declared.stmt.Stmt.TheVariants as stmt
 use Rattle.first_form.specs.Spelling.{Text, Level, Sum, Term, Primary, Spells, parentheses, single, product, quotient, unsigned, plus, minus, addition, subtraction, SpellsItems, last, more, SpellsLine, print, end}
 use Rattle.first_form.specs.Spelling as spelling
-use Rattle.first_form.specs.Reading.{Outcome, Parser, and_then, ◌>>=◌, ◌>>◌, pure, eat, expect, term_operator, sum_operator, sign, next_operator, after_operator, operator, on_operator, signed, digits, is_number, number_by, number, more_operands, primary, term, sum, sum_within, more_items, items, print_of, statement_of}
+use Rattle.first_form.specs.Reading.{Outcome, Parser, and_then, ◌>>=◌, ◌>>◌, pure, eat, expect, term_operator, sum_operator, sign, after_operator, operator, on_operator, signed, digits, is_number, number, more_operands, primary, term, sum, sum_within, more_items, items, print_of, statement_of}
 use Rattle.first_form.proofs.Numbers.{digits_all}
 
 -- what holds of an item and of the text after it, where one is read

@@ -1,10 +1,10 @@
 -- The turns of the loops that read: while an operator or a comma comes next.
-use Rattle.std.proofs.Common.{◌≡◌, ℕ, zero, suc, ◌≤◌, ◌<◌, ◌+◌, ◌-◌, List, [], ◌∷◌, ◌++◌, length, drop, Option, Some, None, Ok, Err, refl, sym, ap, ◌∙◌, subst, arith}
+use Rattle.std.proofs.Common.{◌≡◌, ℕ, zero, suc, ◌≤◌, ◌<◌, ◌-◌, [], ◌∷◌, length, Option, Some, None, refl, sym, ap, ◌∙◌, arith}
 use Rattle.f77_ast.specs.declared.expr.Expr.{Expr}
 use Rattle.f77_ast.specs.declared.expr.Expr.TheVariants as expr
 use Rattle.f77_ast.specs.declared.expr.Op.{Op}
 use Rattle.first_form.specs.Spelling.{Text}
-use Rattle.first_form.specs.Reading.{Outcome, Parser, and_then, ◌>>=◌, pure, next_operator, after_operator, operator, on_operator, more_operands, term_operator, sum_operator, sign, signed, primary, term, sum, sum_within}
+use Rattle.first_form.specs.Reading.{Outcome, Parser, and_then, next_operator, after_operator, more_operands, term_operator, sum_operator, sign, signed, primary, term, sum, sum_within}
 
 -- the whole is what so many turns more make of it, and they are enough for the text that is left
 pub record Turns {A : Type 0} (whole : Outcome A) (next : ℕ → Outcome A) (left : ℕ) : Type 0 where

@@ -1,5 +1,5 @@
 -- Which texts sums, lists of sums and statements have. A text has no blanks.
-use Rattle.std.specs.Prelude.{◌≡◌, ℕ, ◌^◌, ◌<◌, pos, List, [], ◌∷◌, ◌++◌, codes}
+use Rattle.std.specs.Prelude.{ℕ, ◌^◌, ◌<◌, pos, List, [], ◌∷◌, ◌++◌, codes}
 use Rattle.hyb_base.specs.Decimal.{IsDigits, value_of}
 use Rattle.f77_ast.specs.declared.expr.Expr.{Expr}
 use Rattle.f77_ast.specs.declared.expr.Expr.TheVariants as expr

@@ -1,4 +1,3 @@
-use Rattle.std.proofs.Common.{arith}
 use Rattle.hyb_base.proofs.Decimals.{IsUtf8-from_digits}
 use Rattle.first_form.proofs.Numbers.{read_by_parse}
 use Rattle.first_form.proofs.reader.number_of.Goals as goal

@@ -1,4 +1,4 @@
-use Rattle.std.proofs.Common.{rules, arith, ◌≡◌, ◌∙◌, sym, false, true}
+use Rattle.std.proofs.Common.{rules, arith, ◌≡◌, false, true}
 use Rattle.std.proofs.lemmas.Grind.{common_steps}
 use Rattle.first_form.specs.Reading.{items, sum_within, sees}
 use Rattle.first_form.proofs.ItemTurns.{items_start, item_missing, item_last, item_more}

@@ -1,7 +1,7 @@
-use Rattle.std.proofs.Common.{rules, arith, ◌≡◌, ◌-◌, ◌≤◌, length, suc, ap, sym, ◌∙◌, Some, None}
+use Rattle.std.proofs.Common.{rules, arith, ◌≡◌, ◌≤◌, length, ap, sym, ◌∙◌}
 use Rattle.std.proofs.lemmas.Grind.{common_steps}
 use Rattle.first_form.specs.Reading.{primary, term, sum, sum_within, term_operator, sum_operator, sign, next_operator, after_operator}
-use Rattle.first_form.proofs.Turns.{Turns, ended, turn_fails, turn_goes, after_shorter, after_within, term_starts, term_missing, sum_starts, sum_missing, no_depth, one_deeper}
+use Rattle.first_form.proofs.Turns.{ended, turn_fails, turn_goes, after_within, term_starts, term_missing, sum_starts, sum_missing, no_depth, one_deeper}
 use Rattle.first_form.proofs.sums.+sums.Goals as goal
 
 pub primary-returns-then-not-eat-clause-value : goal.primary-returns-then-not-eat-clause-value

@@ -1,7 +1,6 @@
-use Rattle.std.proofs.Common.{◌≡◌, rules, ap, ◌∙◌, Some, ℤ}
+use Rattle.std.proofs.Common.{rules}
 use Rattle.std.specs.Prelude.{FitsSigned}
 use Rattle.std.specs.Int.{w64}
-use Rattle.f77_ast.specs.declared.expr.Expr.TheVariants as expr
 use Rattle.first_form.proofs.Numbers.{number_there, number_missing, kept}
 use Rattle.first_form.proofs.reader.Reader.number.Goals as goal
 
