@@ -35,7 +35,7 @@ pub record IsPrepared (seen : FilesSeen) (request : RunRequest) (m : Machine) : 
   pub accepted : front_of bytes ≡ Ok program
   pub input_whole : IsWhole (seen.content request.input) input
   pub schedule_whole : IsWhole (seen.content request.schedule) schedule
-  pub start : IsAtStart program m
+  pub start : IsAtStart program input m
 
 -- why no program was made of some bytes
 pub data FrontStops (bytes : List ℕ) (stop : Status) : Type 0 where

@@ -30,7 +30,7 @@ pub struct Machine {
 /// A machine before the first step. It takes all memory of the run.
 pub fn at_start(alloc: Global, program: Program, input: Bytes) -> Result<Machine, NoMemory>
     requires { IsSound program }
-    ensures { IfOk result (IsAtStart program) }
+    ensures { IfOk result (IsAtStart program input) }
 {
     let process = Process::new(alloc, &program)?;
     let store = Store::new(alloc, &program.layout)?;

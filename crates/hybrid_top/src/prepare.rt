@@ -54,7 +54,7 @@ fn accept(alloc: Global, bytes: &[u8]) -> Result<Program, Status>
 /// A machine at its start, or the status with which the command stops.
 fn start(alloc: Global, program: Program, input: Bytes) -> Result<Machine, Status>
     requires { IsSound program }
-    ensures machine { IfOk result (IsAtStart program) }
+    ensures machine { IfOk result (IsAtStart program input) }
     ensures stops { IfErr result (λ stop. stop ≡ Status.NoMemory) }
 {
     match at_start(alloc, program, input) {
