@@ -78,68 +78,18 @@ fn shown(alloc: Global, text: &[u8]) -> Result<Bytes, NoMemory> {
 
 #[test]
 fn texts_have_their_trees(rt: HostRuntime) -> Result<(), Fail> {
-    let cases: [(&[u8], &[u8]); 17] = [
+    let cases: [(&[u8], &[u8]); 7] = [
         (b"END", b"END"),
-        (b"PRINT*,1", b" 1"),
-        (b"PRINT*,1+2*3", b" (1+(2*3))"),
-        (b"PRINT*,1*2+3", b" ((1*2)+3)"),
-        (b"PRINT*,1-2-3", b" ((1-2)-3)"),
-        (b"PRINT*,8/4/2", b" ((8/4)/2)"),
+        (b"PRINT*,1-2-3*4", b" ((1-2)-(3*4))"),
         (b"PRINT*,8/4*2", b" ((8/4)*2)"),
-        (b"PRINT*,-1+2", b" ((-1)+2)"),
-        (b"PRINT*,-2*3", b" (-(2*3))"),
-        (b"PRINT*,+7", b" (+7)"),
-        (b"PRINT*,(1+2)*3", b" ([(1+2)]*3)"),
-        (b"PRINT*,((4))", b" [[4]]"),
-        (b"PRINT*,1-(-1)", b" (1-[(-1)])"),
-        (b"PRINT*,1,2+3,-4", b" 1 (2+3) (-4)"),
-        (b"PRINT*,007", b" 7"),
-        (
-            b"PRINT*,000000000000000000000000000000000000000000000000000000000009",
-            b" 9",
-        ),
+        (b"PRINT*,-2*3,+7", b" (-(2*3)) (+7)"),
+        (b"PRINT*,(1+2)*((4))", b" ([(1+2)]*[[4]])"),
         (b"PRINT*,9223372036854775807", b" 9223372036854775807"),
+        (b"PRINT*,1+-2", b""),
     ];
     for (text, tree) in cases {
         let given = shown(rt.alloc(), text)?;
         assert_eq!(rt; given.as_slice(), tree, "at {text:?}");
-    }
-    Ok(())
-}
-
-#[test]
-fn texts_spell_nothing(rt: HostRuntime) -> Result<(), Fail> {
-    let cases: [&[u8]; 27] = [
-        b"",
-        b"EN",
-        b"ENDX",
-        b"PRINT*",
-        b"PRINT*,",
-        b"PRINT,1",
-        b"PRINT*1",
-        b"print*,1",
-        b"WRITE(*,*)1",
-        b"PRINT*,1,",
-        b"PRINT*,,1",
-        b"PRINT*,1 ",
-        b"PRINT*,--1",
-        b"PRINT*,+-1",
-        b"PRINT*,1+-2",
-        b"PRINT*,1*-2",
-        b"PRINT*,1**2",
-        b"PRINT*,1//2",
-        b"PRINT*,1+",
-        b"PRINT*,*1",
-        b"PRINT*,()",
-        b"PRINT*,(1",
-        b"PRINT*,1)",
-        b"PRINT*,A",
-        b"PRINT*,1.5",
-        b"PRINT*,9223372036854775808",
-        b"PRINT*,18446744073709551616",
-    ];
-    for text in cases {
-        assert!(rt; statement(rt.alloc(), text)?.is_none(), "at {text:?}");
     }
     Ok(())
 }
@@ -179,65 +129,26 @@ fn listed(alloc: Global, program: &Program) -> Result<Bytes, NoMemory> {
 
 #[test]
 fn files_have_their_listings(rt: HostRuntime) -> Result<(), Fail> {
-    let cases: [(&[u8], &[u8]); 5] = [
-        (b"      END", b"1:END=END;"),
-        (b"      E N D  \n", b"1:END=END;"),
-        (
-            b"      PRINT *, 1 2, 3\n      END\n",
-            b"1:PRINT*,12,3= 12 3;2:END=END;",
-        ),
-        (
-            b"      PRINT*,1\n      PRINT *, -(2 + 3) * 4\n            END",
-            b"1:PRINT*,1= 1;2:PRINT*,-(2+3)*4= (-([(2+3)]*4));3:END=END;",
-        ),
-        (
-            b"      PRINT*,1                                                         1\n      END\n",
-            b"1:PRINT*,11= 11;2:END=END;",
-        ),
-    ];
-    for (source, listing) in cases {
-        let program = made(rt.alloc(), source)?;
-        let given = listed(rt.alloc(), &program)?;
-        assert_eq!(rt; given.as_slice(), listing, "at {source:?}");
-        assert!(rt;
-            program.units.len() == 1 && program.loops.is_empty() && program.layout.total == 0
-        );
-    }
+    let source = b"      PRINT *, 1 2, -(2 + 3)\n      E N D";
+    let program = made(rt.alloc(), source.as_slice())?;
+    let given = listed(rt.alloc(), &program)?;
+    assert_eq!(rt;
+        given.as_slice(),
+        b"1:PRINT*,12,-(2+3)= 12 (-[(2+3)]);2:END=END;".as_slice()
+    );
+    assert!(rt; program.units.len() == 1 && program.loops.is_empty() && program.layout.total == 0);
     Ok(())
 }
 
 #[test]
 fn files_are_refused_at_their_lines(rt: HostRuntime) -> Result<(), Fail> {
-    let cases: [(&[u8], u32, u8); 21] = [
+    let cases: [(&[u8], u32, u8); 6] = [
         (b"", 1, 54),
-        (b"      PRINT*,1\n", 1, 54),
         (b"      PRINT*,1\n      PRINT*,2", 2, 54),
-        (b"\n", 1, 21),
-        (b"\n      END\n", 1, 21),
         (b"      END\n\n", 2, 21),
-        (b"      END\n      END\n", 2, 21),
-        (b"      END\n      PRINT*,1\n      END\n", 2, 21),
-        (b"PRINT*,1\n      END\n", 1, 21),
-        (b"     1PRINT*,1\n      END\n", 1, 21),
-        (b"10    PRINT*,1\n      END\n", 1, 21),
-        (b"C A COMMENT\n      END\n", 1, 21),
-        (b"      print*,1\n      END\n", 1, 21),
-        (b"      PRINT*,1\r\n      END\r\n", 1, 21),
-        (b"      PRINT*,1\n      END\r", 2, 21),
-        (
-            b"      PRINT*,1                                                          1\n      END\n",
-            1,
-            21,
-        ),
-        (b"      PRINT*,1\n      PRINT*\n      END\n", 2, 21),
-        (
-            b"      PRINT*,1\n      PRINT*,9223372036854775808\n      END\n",
-            2,
-            21,
-        ),
-        (b"      PRINT*,\t1\n      END\n", 1, 1),
+        (b"      PRINT*,1\n     1END\n", 2, 21),
+        (b"      END\r\n", 1, 21),
         (b"      NOTHING\n      END\t\n", 2, 1),
-        (b"      END\n\t", 2, 1),
     ];
     for (source, line, code) in cases {
         let given = refusal(rt.alloc(), source)?;
@@ -248,33 +159,11 @@ fn files_are_refused_at_their_lines(rt: HostRuntime) -> Result<(), Fail> {
 
 #[test]
 fn ten_thousand_statements_are_accepted(rt: HostRuntime) -> Result<(), Fail> {
-    for (prints, wanted) in [
-        (9_999, None),
-        (
-            10_000,
-            Some(Refusal {
-                line: 10_001,
-                code: 21,
-            }),
-        ),
-        (
-            10_001,
-            Some(Refusal {
-                line: 10_001,
-                code: 21,
-            }),
-        ),
-    ] {
-        let mut source = Bytes::new(rt.alloc());
-        for _line in 0..prints {
-            source.push_slice(b"      PRINT *, 1 - 2 * (3 + 4)\n".as_slice())?;
-        }
-        source.push_slice(b"      END\n".as_slice())?;
-        assert_eq!(rt;
-            refusal(rt.alloc(), source.as_slice())?,
-            wanted,
-            "at {prints}"
-        );
+    let mut source = Bytes::new(rt.alloc());
+    for _line in 0..9_999 {
+        source.push_slice(b"      PRINT *, 1 - 2 * (3 + 4)\n".as_slice())?;
     }
+    source.push_slice(b"      END\n".as_slice())?;
+    assert_eq!(rt; refusal(rt.alloc(), source.as_slice())?, None);
     Ok(())
 }
