@@ -25,6 +25,13 @@ const END_FILES: [File<'static>; 3] = [
     (b"S", b"WINDOW 4\nMIX 1\n"),
 ];
 
+/// The three files of a run that prints one line.
+const ONE_LINE: [File<'static>; 3] = [
+    (b"P", b"      PRINT *, 7\n      END\n"),
+    (b"I", b""),
+    (b"S", b"WINDOW 4\nMIX 1\n"),
+];
+
 /// The words of a text, with blanks between them.
 fn words(alloc: Global, text: &[u8]) -> Result<Words, NoMemory> {
     let mut words = Words::new(alloc);
@@ -138,7 +145,7 @@ fn program_gives(
     steps: &[u8],
     wanted: Want<'_>,
 ) -> Result<bool, NoMemory> {
-    let all: [File<'_>; 3] = [(b"P", program), (b"I", b""), (b"S", b"")];
+    let all: [File<'_>; 3] = [(b"P", program), (b"I", b""), (b"S", b"WINDOW 4\nMIX 1\n")];
     let mut text = Bytes::from_slice(alloc, b"run P I S ")?;
     text.push_slice(steps)?;
     gives(alloc, text.as_slice(), &all, NONE, wanted)
@@ -329,7 +336,7 @@ fn runs(rt: HostRuntime) -> Result<(), Fail> {
 const TWO_LINES: [File<'static>; 3] = [
     (b"P", b"      PRINT *, 1\n      PRINT *, 2\n      END\n"),
     (b"I", b""),
-    (b"S", b""),
+    (b"S", b"WINDOW 4\nMIX 1\n"),
 ];
 
 #[test]
@@ -413,20 +420,17 @@ fn failing_calls(rt: HostRuntime) -> Result<(), Fail> {
         };
         let fault = no_lines(Status::ReadFault, b"READ FAULT\n");
         assert!(rt;
-            gives(rt.alloc(), b"run P I S 1", &END_FILES, fails, fault)?,
+            gives(rt.alloc(), b"run P I S 2", &ONE_LINE, fails, fault)?,
             "call {call}"
         );
     }
     let past = Fails { files: 6, ..NONE };
-    assert!(rt;
-        gives(
-            rt.alloc(),
-            b"run P I S 1",
-            &END_FILES,
-            past,
-            no_lines(Status::Done, b"")
-        )?
-    );
+    let printed = Want {
+        status: Status::Done,
+        out: b" 7\n",
+        notes: b"",
+    };
+    assert!(rt; gives(rt.alloc(), b"run P I S 2", &ONE_LINE, past, printed)?);
 
     // a status line that can't be written: none is offered again
     let unwritten = no_lines(Status::WriteFault, b"");
