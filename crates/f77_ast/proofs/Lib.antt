@@ -1,1 +1,2 @@
+pub mod EntityLemmas
 pub mod Loops

@@ -1,3 +1,4 @@
+pub mod Entity
 pub mod Fault
 pub mod Loop
 pub mod Name

@@ -5,6 +5,7 @@
 #![tactic(auto)]
 
 pub mod code;
+pub mod entities;
 pub mod expr;
 pub mod initial;
 pub mod name;

@@ -4,6 +4,7 @@ ghost use Rattle.std.specs.Option.{option_copied};
 ghost use Rattle.f77_ast.specs.Loop.{has_ordinal, in_place, loop_of, has_loop, NumberedLoopsStandInPlace};
 
 use crate::code::Code;
+use crate::entities::Entities;
 use crate::expr::{Expr, Kind};
 use crate::name::Name;
 use crate::specification::Bound;
@@ -67,9 +68,6 @@ pub struct Entity {
     /// Where it stands.
     pub place: Place,
 }
-
-/// The entities of all units: unit by unit, in a unit by the name's first appearance.
-pub type Entities = List<Entity>;
 
 /// A connected class of entities that overlap in storage, from its least to its greatest address.
 #[derive(Clone, Copy, Debug, PartialEq, Eq)]

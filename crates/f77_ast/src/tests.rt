@@ -2,11 +2,12 @@
 //! tree is let go.
 
 use crate::code::{Code, Instr};
+use crate::entities::Entities;
 use crate::expr::{Expr, Kind};
 use crate::name::Name;
 use crate::program::{
-    Bounds, Card, Entities, Entity, Layout, Listed, Listing, Loop, Loops, Place, Program, Region,
-    Regions, Unit, Units,
+    Bounds, Card, Entity, Layout, Listed, Listing, Loop, Loops, Place, Program, Region, Regions,
+    Unit, Units,
 };
 use crate::refusal::{Fault, FrontError, Refusal};
 use crate::specification::Bound;
@@ -134,6 +135,12 @@ fn lists_and_tables(rt: HostRuntime) -> Result<(), Fail> {
         place: Place::Stored(5),
     })?;
     assert_eq!(rt; entities.get(0).map(|entity| entity.bounds.len()), Some(1));
+    assert_eq!(rt;
+        entities.find(0, &a_name(b"A")?).map(|entity| entity.len),
+        Some(1)
+    );
+    assert!(rt; entities.find(1, &a_name(b"A")?).is_none());
+    assert!(rt; entities.find(0, &a_name(b"AA")?).is_none());
 
     let mut regions = Regions::new(alloc);
     regions.push(Region { start: 5, len: 9 })?;

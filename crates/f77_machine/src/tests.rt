@@ -8,10 +8,9 @@ use crate::line::Line;
 use crate::process::Process;
 use crate::store::Store;
 use f77_ast::code::Code;
+use f77_ast::entities::Entities;
 use f77_ast::expr::{Expr, Op};
-use f77_ast::program::{
-    Card, Entities, Layout, Listed, Listing, Loops, Program, Regions, Unit, Units,
-};
+use f77_ast::program::{Card, Layout, Listed, Listing, Loops, Program, Regions, Unit, Units};
 use f77_ast::refusal::Fault;
 use f77_ast::step::Stepped;
 use f77_ast::stmt::{Item, Stmt};

@@ -9,6 +9,7 @@ use crate::columns::{has_tab, is_in_columns, text_of};
 use crate::lines::next_line;
 use crate::statement::statement;
 use f77_ast::code::Code;
+use f77_ast::entities::Entities;
 use f77_ast::program::{Card, Layout, Listed, Listing, Program, Unit};
 use f77_ast::refusal::{FrontError, Refusal};
 use hyb_base::list::List;
@@ -116,7 +117,7 @@ fn program_with(alloc: Global, listing: Listing) -> Result<Program, NoMemory>
     })?;
     let layout = Layout {
         regions: List::new(alloc),
-        entities: List::new(alloc),
+        entities: Entities::new(alloc),
         total: 0,
         first: Nums::new(alloc),
     };
