@@ -1,21 +1,36 @@
 -- Which programs are sound.
-use Rattle.std.proofs.Common.{◌≡◌, zero, suc, List, [], ◌∷◌, ◌++◌, All, refl, sym, subst, arith, slice_get, IsSome}
+use Rattle.std.proofs.Common.{◌≡◌, ℕ, zero, suc, List, [], ◌∷◌, ◌++◌, All, refl, sym, subst, arith, slice_get, IsSome, IsTrue, Some}
+use Rattle.f77_ast.specs.declared.program.Layout.{Layout}
 use Rattle.f77_ast.specs.declared.program.Listed.{Listed}
 use Rattle.f77_ast.specs.declared.program.Program.{Program}
 use Rattle.f77_ast.specs.declared.program.Unit.{Unit as ProgramUnit}
 use Rattle.f77_ast.specs.declared.stmt.Stmt.{End}
-use Rattle.f77_meaning.specs.Sound.{EndsWithEnd, IsSound}
+use Rattle.f77_meaning.specs.Sound.{EndsWithEnd, IsSound, statement_resolves}
+use Rattle.f77_meaning.specs.Storage.{IsStorage}
 
 -- what holds of the one item of a list holds of each
 all_of_one : {X : Type 0} (P : X → Type 0) (x : X) → P x → All P (x ∷ [])
 all_of_one P x p zero d h = p
 all_of_one P x p (suc k) d h = absurd (omega (arith, h))
 
--- a program of one unit is sound, where its last statement is END
-pub one_unit_is_sound : (program : Program) (main : ProgramUnit) (before : List Listed) (last : Listed) → program.units ≡ main ∷ [] → main.listing ≡ before ++ last ∷ [] → last.stmt ≡ End → IsSound program
-one_unit_is_sound program main before last units listing ends =
+-- all references of the statements of some units name entities
+abbrev Resolved : Layout → List ProgramUnit → Type 0
+Resolved layout units = (u : ℕ) (unit : ProgramUnit) → slice_get units u ≡ Some unit → All (λ listed. IsTrue (statement_resolves layout u listed.stmt)) unit.listing
+
+resolved_of_one : (layout : Layout) (main : ProgramUnit) → All (λ listed. IsTrue (statement_resolves layout 0 listed.stmt)) main.listing → Resolved layout (main ∷ [])
+resolved_of_one layout main resolved zero unit e =
+    let same : main ≡ unit = cc in
+    subst (λ w. All (λ listed. IsTrue (statement_resolves layout 0 listed.stmt)) w.listing) same resolved
+resolved_of_one layout main resolved (suc u) unit e = absurd (cc)
+
+-- a program of one unit is sound, where its last statement is END, all references of its statements name entities, and
+-- these lie in storage
+pub one_unit_is_sound : (program : Program) (main : ProgramUnit) (before : List Listed) (last : Listed) → program.units ≡ main ∷ [] → main.listing ≡ before ++ last ∷ [] → last.stmt ≡ End → All (λ listed. IsTrue (statement_resolves program.layout 0 listed.stmt)) main.listing → IsStorage program.layout → IsSound program
+one_unit_is_sound program main before last units listing ends resolved storage =
     record {
       main = subst (λ us. IsSome (slice_get us 0)) (sym units) refl;
       ended = subst (All (λ unit. EndsWithEnd unit.listing)) (sym units)
           (all_of_one (λ unit. EndsWithEnd unit.listing) main (record { before = before; last = last; joined = listing; is_end = ends }));
+      resolved = subst (Resolved program.layout) (sym units) (resolved_of_one program.layout main resolved);
+      storage = storage;
     }

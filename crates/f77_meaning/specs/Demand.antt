@@ -1,16 +1,22 @@
 -- The value of an expression, from the values of the units that it reads (ANSI X3.9-1978, section 6).
 -- It is evaluated from left to right. Each value that it reads is taken in turn from a list of answers: where the list
 -- is too short, the evaluation asks for the unit that it reads next.
-use Rattle.std.specs.Prelude.{ℕ, ℤ, pos, List, Option, None, Some}
+use Rattle.std.specs.Prelude.{ℕ, suc, ◌+◌, ℤ, pos, List, [], ◌∷◌, Option, None, Some, nat_lt, if◌then◌else◌}
 use Rattle.hyb_base.specs.Wrap.{sum_of, difference_of, product_of, negation_of, quotient_of, power_of}
 use Rattle.f77_ast.specs.declared.expr.Op.{Op}
 use Rattle.f77_ast.specs.declared.expr.Op.TheVariants.{Plus, Neg, Add, Sub, Mul, Div, Pow}
 use Rattle.f77_ast.specs.declared.expr.Expr.{Expr}
 use Rattle.f77_ast.specs.declared.expr.Expr.TheOpen.{Expr-F, Part-F, Ref-F}
 use Rattle.f77_ast.specs.declared.expr.Expr.TheOpen as layer
-use Rattle.f77_ast.specs.declared.expr.Expr.TheFolds.{fold-Expr}
+use Rattle.f77_ast.specs.declared.expr.Expr.TheFolds.{fold-Expr, fold-Ref}
+use Rattle.f77_ast.specs.declared.expr.Ref.{Ref}
+use Rattle.f77_ast.specs.declared.program.Entity.{Entity}
+use Rattle.f77_ast.specs.declared.program.Layout.{Layout}
 use Rattle.f77_ast.specs.declared.refusal.Fault.{Fault}
-use Rattle.f77_ast.specs.declared.refusal.Fault.TheVariants.{ZeroDivisor}
+use Rattle.f77_ast.specs.declared.refusal.Fault.TheVariants.{ZeroDivisor, Subscript}
+use Rattle.f77_ast.specs.declared.specification.Bound.{Bound}
+use Rattle.f77_ast.specs.Entity.{entity_in}
+use Rattle.f77_meaning.specs.Storage.{start_of, extent_of}
 
 -- what an evaluation comes to: a value and the answers that are left, the address of the unit that is read next, or a fault
 pub data Demand (A : Type 0) : Type 0 where
@@ -44,24 +50,56 @@ binary_of Div x y rest = unless_zero_divisor (quotient_of x y) rest
 binary_of Pow x y rest = unless_zero_divisor (power_of x y) rest
 binary_of op x y rest = gives (pos 0) rest
 
+-- the value of the unit at an address: the next answer, or it is read next
+abbrev pub taken : (address : ℕ) → List ℤ → Demand ℤ
+taken address [] = wants address
+taken address (value ∷ rest) = gives value rest
+
+-- the address of the element of a subscript, in an array of one dimension that starts here (section 5.4): the first
+-- subscript is 1, and one outside the dimension is a fault
+abbrev pub element_of : (start extent : ℕ) → (subscript : ℤ) → List ℤ → Demand ℕ
+element_of start extent (pos (suc k)) rest = if nat_lt k extent then gives (start + k) rest else fails Subscript
+element_of start extent subscript rest = fails Subscript
+
 -- what an expression comes to on these answers
 abbrev pub Evaluation : Type 0
 Evaluation = List ℤ → Demand ℤ
 
--- one level: the left operand before the right one; names have no meaning yet
-abbrev pub expr_step : Expr-F Evaluation (Unit {0}) (Unit {0}) → Evaluation
+-- which unit a reference stands for, on these answers
+abbrev pub Location : Type 0
+Location = List ℤ → Demand ℕ
+
+-- the unit of an array's element: the subscript is evaluated, and then checked
+abbrev pub located_in : List Bound → (start : ℕ) → Evaluation → Location
+located_in (bound ∷ []) start subscript answers = and_then (subscript answers) (λ s rest. element_of start (extent_of bound) s rest)
+located_in _ start subscript answers = gives 0 answers
+
+-- the unit of a variable, or of an element; other references have no meaning yet
+abbrev pub located : Option Entity → Option (List Evaluation) → Location
+located (Some entity) None answers = gives (start_of entity) answers
+located (Some entity) (Some (subscript ∷ [])) answers = located_in entity.bounds (start_of entity) subscript answers
+located _ _ answers = gives 0 answers
+
+-- one level: the left operand before the right one; a reference reads its subscript, and then its unit
+abbrev pub expr_step : Expr-F Evaluation (Unit {0}) Location → Evaluation
 expr_step (layer.Int value) answers = gives value answers
+expr_step (layer.Ref unit) answers = and_then (unit answers) taken
 expr_step (layer.Paren inner) answers = inner answers
 expr_step (layer.Unary op operand) answers = and_then (operand answers) (λ x rest. unary_of op x rest)
 expr_step (layer.Binary op left right) answers = and_then (left answers) (λ x rest. and_then (right rest) (λ y more. binary_of op x y more))
 expr_step _ answers = gives (pos 0) answers
 
-abbrev pub part_step : Part-F Evaluation (Unit {0}) (Unit {0}) → Unit {0}
+abbrev pub part_step : Part-F Evaluation (Unit {0}) Location → Unit {0}
 part_step part = tt
 
-abbrev pub ref_step : Ref-F Evaluation (Unit {0}) (Unit {0}) → Unit {0}
-ref_step ref = tt
+-- a name stands for an entity of its unit
+abbrev pub ref_step : Layout → (unit : ℕ) → Ref-F Evaluation (Unit {0}) Location → Location
+ref_step layout unit ref = located (entity_in layout.entities unit ref.name) ref.args
 
--- the value of an expression of type INTEGER
-abbrev pub demand_of : Expr → Evaluation
-demand_of = fold-Expr Evaluation (Unit {0}) (Unit {0}) expr_step part_step ref_step
+-- the value of an expression of type INTEGER in a unit
+abbrev pub demand_of : Layout → (unit : ℕ) → Expr → Evaluation
+demand_of layout unit = fold-Expr Evaluation (Unit {0}) Location expr_step part_step (ref_step layout unit)
+
+-- the storage unit that a reference of a unit stands for
+abbrev pub location_of : Layout → (unit : ℕ) → Ref → Location
+location_of layout unit = fold-Ref Evaluation (Unit {0}) Location expr_step part_step (ref_step layout unit)

@@ -1,3 +1,4 @@
+pub mod Assign
 pub mod Demand
 pub mod Event
 pub mod Next
@@ -6,3 +7,4 @@ pub mod Process
 pub mod Run
 pub mod Sound
 pub mod Step
+pub mod Storage

@@ -1,8 +1,12 @@
 -- A process: where control is in a program, and what is known there.
-use Rattle.std.specs.Prelude.{ℕ, ℤ, List, [], Option, None, Some, slice_get}
+use Rattle.std.specs.Prelude.{ℕ, ℤ, Bool, true, false, not, List, [], ◌∷◌, Option, None, Some, slice_get}
+use Rattle.std.specs.List.{prefix_len}
 use Rattle.std.specs.Option.{option_and_then}
 use Rattle.f77_ast.specs.declared.program.Listed.{Listed}
 use Rattle.f77_ast.specs.declared.program.Program.{Program}
+use Rattle.f77_ast.specs.declared.program.Unit.{Unit as ProgramUnit}
+use Rattle.f77_ast.specs.declared.stmt.Stmt.{Stmt}
+use Rattle.f77_ast.specs.declared.stmt.Stmt as stmt
 
 -- a process stands at a statement of a unit, and has the values that the statement has read so far
 pub record Process : Type 0 where
@@ -23,6 +27,31 @@ abbrev pub line_of : Option Listed → ℕ
 line_of None = 0
 line_of (Some listed) = listed.card.line
 
--- the process before the first step: it stands at the first statement of the main unit
-abbrev pub first_process : Process
-first_process = record { unit = 0; at = 0; answers = [] }
+-- whether a statement is executable: all but PROGRAM, SUBROUTINE, FUNCTION, the specification statements and DATA
+-- (section 7)
+abbrev pub is_executable : Stmt → Bool
+is_executable (stmt.Program name) = false
+is_executable (stmt.Subroutine name dummies) = false
+is_executable (stmt.Function typ name dummies) = false
+is_executable (stmt.Declare typ entities) = false
+is_executable (stmt.Dimension arrays) = false
+is_executable (stmt.Common groups) = false
+is_executable (stmt.Equivalence groups) = false
+is_executable (stmt.Parameter constants) = false
+is_executable (stmt.Implicit rules) = false
+is_executable (stmt.Save entries) = false
+is_executable (stmt.Init groups) = false
+is_executable _ = true
+
+-- the place of the first executable statement of some statements
+abbrev pub first_executable : List Listed → ℕ
+first_executable listing = prefix_len (λ listed. not (is_executable listed.stmt)) listing
+
+-- the same of the first of some units, which is the main unit
+abbrev pub entry_of : List ProgramUnit → ℕ
+entry_of [] = 0
+entry_of (main ∷ units) = first_executable main.listing
+
+-- the process before the first step: it stands at the first executable statement of the main unit
+abbrev pub first_process : Program → Process
+first_process program = record { unit = 0; at = entry_of program.units; answers = [] }

@@ -49,4 +49,4 @@ run_from program p store (suc left) =
 
 -- the sequential run on an input, for so many steps at most
 abbrev pub sequential_run : Program → (input : List ℕ) → (steps : ℕ) → Run
-sequential_run program input steps = run_from program first_process program.layout.first steps
+sequential_run program input steps = run_from program (first_process program) program.layout.first steps

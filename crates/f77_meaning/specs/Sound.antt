@@ -1,9 +1,19 @@
 -- What a step may ask of its program, its process, the storage and the line of PRINT.
-use Rattle.std.specs.Prelude.{◌≡◌, ℕ, ℤ, List, [], ◌∷◌, ◌++◌, length, All, Option, None, Some, IsSome, slice_get}
+use Rattle.std.specs.Prelude.{◌≡◌, ℕ, ℤ, Bool, true, false, ◌&&◌, List, [], ◌∷◌, ◌++◌, length, All, Option, None, Some, IsSome, IsTrue, slice_get}
+use Rattle.f77_ast.specs.Entity.{entity_in}
+use Rattle.f77_ast.specs.declared.expr.Expr.{Expr}
+use Rattle.f77_ast.specs.declared.expr.Expr.TheFolds.{fold-Expr, fold-Ref}
+use Rattle.f77_ast.specs.declared.expr.Expr.TheOpen.{Expr-F, Part-F, Ref-F}
+use Rattle.f77_ast.specs.declared.expr.Expr.TheOpen as layer
+use Rattle.f77_ast.specs.declared.expr.Ref.{Ref}
+use Rattle.f77_ast.specs.declared.program.Entity.{Entity}
 use Rattle.f77_ast.specs.declared.program.Layout.{Layout}
 use Rattle.f77_ast.specs.declared.program.Listed.{Listed}
 use Rattle.f77_ast.specs.declared.program.Program.{Program}
-use Rattle.f77_ast.specs.declared.stmt.Stmt.{Stmt, Print, End}
+use Rattle.f77_ast.specs.declared.program.Unit.{Unit as ProgramUnit}
+use Rattle.f77_ast.specs.declared.stmt.Item.{Item, Plain}
+use Rattle.f77_ast.specs.declared.stmt.Stmt.{Stmt, Assign, Print, End}
+use Rattle.f77_meaning.specs.Storage.{is_scalar, is_vector, IsStorage}
 use Rattle.f77_meaning.specs.Process.{Process, listed_at}
 
 -- statements, the last of which is END (ANSI X3.9-1978, sections 2.4 and 11.14)
@@ -13,10 +23,62 @@ pub record EndsWithEnd (listing : List Listed) : Type 0 where
   pub joined : listing ≡ before ++ last ∷ []
   pub is_end : last.stmt ≡ End
 
--- what every accepted program satisfies: it has a main unit, and each unit ends with END
+-- whether a reference names an entity: a variable without a subscript, or an array of one dimension with one
+abbrev pub resolves_to : Option Entity → Option (List Bool) → Bool
+resolves_to (Some entity) None = is_scalar entity.bounds
+resolves_to (Some entity) (Some (subscript ∷ [])) = is_vector entity.bounds && subscript
+resolves_to _ _ = false
+
+-- there is no substring
+abbrev pub is_whole : Option (Unit {0}) → Bool
+is_whole None = true
+is_whole (Some part) = false
+
+-- whether all references of an expression name entities of its unit
+abbrev pub resolves_step : Expr-F Bool (Unit {0}) Bool → Bool
+resolves_step (layer.Int value) = true
+resolves_step (layer.Truth value) = true
+resolves_step (layer.Chars text) = true
+resolves_step (layer.Ref ref) = ref
+resolves_step (layer.Unary op operand) = operand
+resolves_step (layer.Binary op left right) = left && right
+resolves_step (layer.Paren inner) = inner
+
+abbrev pub resolves_part : Part-F Bool (Unit {0}) Bool → Unit {0}
+resolves_part part = tt
+
+abbrev pub resolves_ref : Layout → (unit : ℕ) → Ref-F Bool (Unit {0}) Bool → Bool
+resolves_ref layout unit ref = is_whole ref.part && resolves_to (entity_in layout.entities unit ref.name) ref.args
+
+module _ (layout : Layout) (unit : ℕ) where
+  abbrev pub resolves : Expr → Bool
+  resolves = fold-Expr Bool (Unit {0}) Bool resolves_step resolves_part (resolves_ref layout unit)
+
+  abbrev pub ref_resolves : Ref → Bool
+  ref_resolves = fold-Ref Bool (Unit {0}) Bool resolves_step resolves_part (resolves_ref layout unit)
+
+  -- the same of an item; an implied DO has no meaning yet
+  abbrev pub item_resolves : Item → Bool
+  item_resolves (Plain expr) = resolves expr
+  item_resolves _ = false
+
+  abbrev pub items_resolve : List Item → Bool
+  items_resolve [] = true
+  items_resolve (item ∷ items) = item_resolves item && items_resolve items
+
+  -- whether all references of a statement name entities of its unit; statements without a meaning yet have none
+  abbrev pub statement_resolves : Stmt → Bool
+  statement_resolves (Assign target value) = ref_resolves target && resolves value
+  statement_resolves (Print items) = items_resolve items
+  statement_resolves _ = true
+
+-- what every accepted program satisfies: it has a main unit, each unit ends with END, all references of its statements
+-- name entities, and these lie in storage
 pub record IsSound (program : Program) : Type 0 where
   pub main : IsSome (slice_get program.units 0)
   pub ended : All (λ unit. EndsWithEnd unit.listing) program.units
+  pub resolved : (u : ℕ) (unit : ProgramUnit) → slice_get program.units u ≡ Some unit → All (λ listed. IsTrue (statement_resolves program.layout u listed.stmt)) unit.listing
+  pub storage : IsStorage program.layout
 
 -- a process that may come of a program: it stands at a statement
 pub record IsOf (program : Program) (p : Process) : Type 0 where

@@ -2,7 +2,9 @@
 use Rattle.std.specs.Prelude.{ℕ, ◌+◌, ℤ, List, [], ◌∷◌, ◌++◌, Option, None, Some}
 use Rattle.f77_ast.specs.declared.program.Listed.{Listed}
 use Rattle.f77_ast.specs.declared.program.Program.{Program}
-use Rattle.f77_ast.specs.declared.stmt.Stmt.{Stmt, Print, End}
+use Rattle.f77_ast.specs.declared.program.Layout.{Layout}
+use Rattle.f77_ast.specs.declared.stmt.Stmt.{Stmt, Assign, Print}
+use Rattle.f77_meaning.specs.Assign.{Written, written_of}
 use Rattle.f77_meaning.specs.Demand.{Demand, gives, wants, fails}
 use Rattle.f77_meaning.specs.Event.{Event, reads, writes, moves, prints, ends, faults}
 use Rattle.f77_meaning.specs.Print.{line_of_items}
@@ -14,22 +16,28 @@ print_event (gives line rest) = prints line
 print_event (wants address) = reads address None
 print_event (fails fault) = faults fault
 
--- the next event of a statement that has read these values: END of the main unit ends the run (ANSI X3.9-1978,
--- section 11.14);
+-- an assignment reads what it asks for, and then writes its unit
+abbrev pub write_event : Demand Written → Event
+write_event (gives written rest) = writes written.0 written.1 None None
+write_event (wants address) = reads address None
+write_event (fails fault) = faults fault
+
+-- the next event of a statement of a unit that has read these values: END of the main unit ends the run (ANSI
+-- X3.9-1978, section 11.14);
 -- the other statements have no meaning yet, and no accepted program has one
-abbrev pub statement_event : Stmt → List ℤ → Event
-statement_event (Print items) answers = print_event (line_of_items items answers)
-statement_event End answers = ends
-statement_event _ answers = ends
+abbrev pub statement_event : Layout → (unit : ℕ) → Stmt → List ℤ → Event
+statement_event layout unit (Assign target value) answers = write_event (written_of layout unit target value answers)
+statement_event layout unit (Print items) answers = print_event (line_of_items layout unit items answers)
+statement_event layout unit _ answers = ends
 
 -- the same, where there may be no statement; no process of an accepted program goes past its END
-abbrev pub event_at : Option Listed → List ℤ → Event
-event_at None answers = ends
-event_at (Some listed) answers = statement_event listed.stmt answers
+abbrev pub event_at : Layout → (unit : ℕ) → Option Listed → List ℤ → Event
+event_at layout unit None answers = ends
+event_at layout unit (Some listed) answers = statement_event layout unit listed.stmt answers
 
 -- what a process does next: a function of the program and the process alone
 abbrev pub event : Program → Process → Event
-event program p = event_at (listed_at program p) p.answers
+event program p = event_at program.layout p.unit (listed_at program p) p.answers
 
 -- the process at the statement after its own, which has read nothing
 abbrev pub at_next : Process → Process
