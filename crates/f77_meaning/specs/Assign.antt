@@ -11,34 +11,35 @@ use Rattle.f77_ast.specs.declared.expr.Part.{Part}
 use Rattle.f77_ast.specs.declared.expr.Ref.{Ref}
 use Rattle.f77_ast.specs.declared.program.Layout.{Layout}
 use Rattle.f77_trees.specs.Same.{same_ref}
-use Rattle.f77_meaning.specs.Demand.{Demand, gives, and_then, Evaluation, taken, binary_of, demand_of, location_of}
+use Rattle.hyb_base.specs.Wrap.{sum_of, difference_of, product_of}
+use Rattle.f77_meaning.specs.Demand.{Demand, gives, and_then, Evaluation, taken, demand_of, location_of}
 
--- the operators of a chain of `+` and `-`
-abbrev pub is_sum : Op → Bool
-is_sum Add = true
-is_sum Sub = true
-is_sum _ = false
+-- whether an operator stands in a chain of `+` and `-`
+abbrev pub stands_in_sum : Op → Bool
+stands_in_sum Add = true
+stands_in_sum Sub = true
+stands_in_sum _ = false
 
--- the operator of a chain of `*`
-abbrev pub is_product : Op → Bool
-is_product Mul = true
-is_product _ = false
+-- whether an operator stands in a chain of `*`
+abbrev pub stands_in_product : Op → Bool
+stands_in_product Mul = true
+stands_in_product _ = false
 
--- the operators whose right operand may be accumulated
+-- whether the operands of an operator may be exchanged in an accumulation
 abbrev pub is_commutative : Op → Bool
 is_commutative Add = true
 is_commutative Mul = true
 is_commutative _ = false
 
 -- whether an expression is a reference, spelled as this one
-abbrev pub is_layer_of : Ref → Expr-F Expr Part Ref → Bool
-is_layer_of v (layer.Ref ref) = same_ref v ref
-is_layer_of v _ = false
+abbrev pub is_spelled_as : Ref → Expr-F Expr Part Ref → Bool
+is_spelled_as v (layer.Ref ref) = same_ref v ref
+is_spelled_as v _ = false
 
-abbrev pub is_of : Ref → Expr → Bool
-is_of v expr = is_layer_of v (out-Expr expr)
+abbrev pub is_v : Ref → Expr → Bool
+is_v v expr = is_spelled_as v (out-Expr expr)
 
--- how many operators stand one within the other at the left
+-- how many operators with two operands stand one within the other at the left
 abbrev pub left_step : Expr-F ℕ (Unit {0}) (Unit {0}) → ℕ
 left_step (layer.Binary op left right) = suc left
 left_step _ = 0
@@ -46,21 +47,28 @@ left_step _ = 0
 abbrev pub operators_at_left : Expr → ℕ
 operators_at_left = fold-Expr ℕ (Unit {0}) (Unit {0}) left_step (λ part. tt) (λ ref. tt)
 
--- the right side of an accumulation, where v has this value and isn't read
+-- the right side of an accumulation with v held open: its value is a function of v's value, once all else is read
 abbrev pub Held : Type 0
-Held = ℤ → Evaluation
+Held = List ℤ → Demand (ℤ → ℤ)
+
+-- what an operator of an accumulation gives of its operands
+abbrev pub joined_by : Op → ℤ → ℤ → ℤ
+joined_by Add x y = sum_of x y
+joined_by Sub x y = difference_of x y
+joined_by Mul x y = product_of x y
+joined_by op x y = pos 0
 
 -- v, and an operand to its right
 abbrev pub held_first : Op → Evaluation → Held
-held_first op right x answers = and_then (right answers) (λ y rest. binary_of op x y rest)
+held_first op right answers = and_then (right answers) (λ y rest. gives (λ v. joined_by op v y) rest)
 
--- a chain, and one operand more to its right
+-- a chain from v on, and one operand more to its right
 abbrev pub held_next : Op → Evaluation → Held → Held
-held_next op right left x answers = and_then (left x answers) (λ z rest. and_then (right rest) (λ y more. binary_of op z y more))
+held_next op right left answers = and_then (left answers) (λ chain rest. and_then (right rest) (λ y more. gives (λ v. joined_by op (chain v) y) more))
 
 -- an operand, and v to its right
 abbrev pub held_last : Op → Evaluation → Held
-held_last op left x answers = and_then (left answers) (λ y rest. binary_of op y x rest)
+held_last op left answers = and_then (left answers) (λ x rest. gives (λ v. joined_by op x v) rest)
 
 module _ (layout : Layout) (unit : ℕ) (v : Ref) where
   module _ (in_chain : Op → Bool) where
@@ -68,7 +76,7 @@ module _ (layout : Layout) (unit : ℕ) (v : Ref) where
     abbrev pub chain_by : (Expr → Option Held) → Expr-F Expr Part Ref → Option Held
     chain_by inner (layer.Binary op left right) =
         if in_chain op
-        then (if is_of v left then Some (held_first op (demand_of layout unit right)) else option_map (held_next op (demand_of layout unit right)) (inner left))
+        then (if is_v v left then Some (held_first op (demand_of layout unit right)) else option_map (held_next op (demand_of layout unit right)) (inner left))
         else None
     chain_by inner _ = None
 
@@ -85,13 +93,14 @@ module _ (layout : Layout) (unit : ℕ) (v : Ref) where
   abbrev pub last_by : Expr-F Expr Part Ref → Option Held
   last_by (layer.Binary op left right) =
       if is_commutative op
-      then (if is_of v right then Some (held_last op (demand_of layout unit left)) else None)
+      then (if is_v v right then Some (held_last op (demand_of layout unit left)) else None)
       else None
   last_by _ = None
 
-  -- the right side of an accumulation, with v held open: the first form that fits counts
+  -- the right side of an accumulation, with v held open: the first form that fits counts; none where the assignment is
+  -- no accumulation. No function is referenced yet, so the rule that there is none but intrinsics needs no words here
   abbrev pub held_of : Expr → Option Held
-  held_of expr = option_or (chain_of is_sum expr) (option_or (chain_of is_product expr) (last_by (out-Expr expr)))
+  held_of expr = option_or (chain_of stands_in_sum expr) (option_or (chain_of stands_in_product expr) (last_by (out-Expr expr)))
 
 -- a unit, and the value that it takes
 abbrev pub Written : Type 0
@@ -101,10 +110,9 @@ Written = ℕ × ℤ
 abbrev pub plainly : (address : ℕ) → Evaluation → List ℤ → Demand Written
 plainly address value answers = and_then (value answers) (λ v rest. gives (address, v) rest)
 
--- an accumulation, the left side's subscript having its value: first all else that is read, then v
+-- an accumulation, the left side's subscript having its value: all else is read, then v, and then v is written
 abbrev pub accumulated : (address : ℕ) → Held → List ℤ → Demand Written
-accumulated address held answers =
-    and_then (held (pos 0) answers) (λ unread rest. and_then (taken address rest) (λ x more. and_then (held x answers) (λ v unused. gives (address, v) more)))
+accumulated address held answers = and_then (held answers) (λ value rest. and_then (taken address rest) (λ v more. gives (address, value v) more))
 
 -- the one or the other
 abbrev pub written_by : Option Held → (address : ℕ) → Evaluation → List ℤ → Demand Written

@@ -14,9 +14,8 @@ use Rattle.f77_ast.specs.declared.program.Entity.{Entity}
 use Rattle.f77_ast.specs.declared.program.Layout.{Layout}
 use Rattle.f77_ast.specs.declared.refusal.Fault.{Fault}
 use Rattle.f77_ast.specs.declared.refusal.Fault.TheVariants.{ZeroDivisor, Subscript}
-use Rattle.f77_ast.specs.declared.specification.Bound.{Bound}
 use Rattle.f77_ast.specs.Entity.{entity_in}
-use Rattle.f77_meaning.specs.Storage.{start_of, extent_of}
+use Rattle.f77_meaning.specs.Storage.{start_of, vector_extent}
 
 -- what an evaluation comes to: a value and the answers that are left, the address of the unit that is read next, or a fault
 pub data Demand (A : Type 0) : Type 0 where
@@ -55,11 +54,20 @@ abbrev pub taken : (address : ℕ) → List ℤ → Demand ℤ
 taken address [] = wants address
 taken address (value ∷ rest) = gives value rest
 
--- the address of the element of a subscript, in an array of one dimension that starts here (section 5.4): the first
--- subscript is 1, and one outside the dimension is a fault
-abbrev pub element_of : (start extent : ℕ) → (subscript : ℤ) → List ℤ → Demand ℕ
-element_of start extent (pos (suc k)) rest = if nat_lt k extent then gives (start + k) rest else fails Subscript
-element_of start extent subscript rest = fails Subscript
+-- the place of an element by its subscript, from 0: the first subscript is 1 (section 5.1.1.1)
+abbrev pub offset_of : (subscript : ℤ) → Option ℕ
+offset_of (pos (suc k)) = Some k
+offset_of _ = None
+
+-- the address of the element at a place, in an array that starts here and has so many elements (section 5.4); a
+-- subscript outside the dimension is a fault, and so is any of what is no array of one dimension
+abbrev pub element_at : (start : ℕ) → (extent offset : Option ℕ) → List ℤ → Demand ℕ
+element_at start (Some extent) (Some k) rest = if nat_lt k extent then gives (start + k) rest else fails Subscript
+element_at start _ _ rest = fails Subscript
+
+-- the address of the element of a subscript
+abbrev pub element_of : Entity → (subscript : ℤ) → List ℤ → Demand ℕ
+element_of entity subscript rest = element_at (start_of entity) (vector_extent entity.bounds) (offset_of subscript) rest
 
 -- what an expression comes to on these answers
 abbrev pub Evaluation : Type 0
@@ -69,21 +77,17 @@ Evaluation = List ℤ → Demand ℤ
 abbrev pub Location : Type 0
 Location = List ℤ → Demand ℕ
 
--- the unit of an array's element: the subscript is evaluated, and then checked
-abbrev pub located_in : List Bound → (start : ℕ) → Evaluation → Location
-located_in (bound ∷ []) start subscript answers = and_then (subscript answers) (λ s rest. element_of start (extent_of bound) s rest)
-located_in _ start subscript answers = gives 0 answers
-
--- the unit of a variable, or of an element; other references have no meaning yet
+-- the unit of a variable, or of an element: the subscript is evaluated, and then checked; other references have no
+-- meaning yet
 abbrev pub located : Option Entity → Option (List Evaluation) → Location
 located (Some entity) None answers = gives (start_of entity) answers
-located (Some entity) (Some (subscript ∷ [])) answers = located_in entity.bounds (start_of entity) subscript answers
+located (Some entity) (Some (subscript ∷ [])) answers = and_then (subscript answers) (λ s rest. element_of entity s rest)
 located _ _ answers = gives 0 answers
 
 -- one level: the left operand before the right one; a reference reads its subscript, and then its unit
 abbrev pub expr_step : Expr-F Evaluation (Unit {0}) Location → Evaluation
 expr_step (layer.Int value) answers = gives value answers
-expr_step (layer.Ref unit) answers = and_then (unit answers) taken
+expr_step (layer.Ref place) answers = and_then (place answers) taken
 expr_step (layer.Paren inner) answers = inner answers
 expr_step (layer.Unary op operand) answers = and_then (operand answers) (λ x rest. unary_of op x rest)
 expr_step (layer.Binary op left right) answers = and_then (left answers) (λ x rest. and_then (right rest) (λ y more. binary_of op x y more))

@@ -5,8 +5,8 @@ use Rattle.f77_ast.specs.declared.refusal.Fault.{Fault}
 use Rattle.f77_ast.specs.declared.step.Control.{Control}
 
 -- one step: a unit of storage is read or written, control moves, a line is printed, or the run stops.
--- A read or a write of an accumulation has its operator. The write of a DO's variable by the DO itself has what it
--- means to that DO.
+-- The last read of an accumulation and its write have its operator; until loops are judged none is marked. The write
+-- of a DO's variable by the DO itself has what it means to that DO.
 pub data Event : Type 0 where
   reads : (address : ℕ) (by : Option RedOp) → Event
   writes : (address : ℕ) (value : ℤ) (by : Option RedOp) (control : Option Control) → Event

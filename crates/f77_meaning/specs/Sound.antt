@@ -23,7 +23,8 @@ pub record EndsWithEnd (listing : List Listed) : Type 0 where
   pub joined : listing ≡ before ++ last ∷ []
   pub is_end : last.stmt ≡ End
 
--- whether a reference names an entity: a variable without a subscript, or an array of one dimension with one
+-- whether a reference names an entity: a variable without a subscript, or an array of one dimension with one, whose own
+-- references do
 abbrev pub resolves_to : Option Entity → Option (List Bool) → Bool
 resolves_to (Some entity) None = is_scalar entity.bounds
 resolves_to (Some entity) (Some (subscript ∷ [])) = is_vector entity.bounds && subscript
@@ -66,14 +67,14 @@ module _ (layout : Layout) (unit : ℕ) where
   items_resolve [] = true
   items_resolve (item ∷ items) = item_resolves item && items_resolve items
 
-  -- whether all references of a statement name entities of its unit; statements without a meaning yet have none
+  -- whether all references of an assignment or a PRINT name entities of its unit; other statements aren't looked at yet
   abbrev pub statement_resolves : Stmt → Bool
   statement_resolves (Assign target value) = ref_resolves target && resolves value
   statement_resolves (Print items) = items_resolve items
   statement_resolves _ = true
 
--- what every accepted program satisfies: it has a main unit, each unit ends with END, all references of its statements
--- name entities, and these lie in storage
+-- what every accepted program satisfies: it has a main unit, each unit ends with END, the references of its assignments
+-- and PRINTs name entities, and these lie in storage
 pub record IsSound (program : Program) : Type 0 where
   pub main : IsSome (slice_get program.units 0)
   pub ended : All (λ unit. EndsWithEnd unit.listing) program.units
@@ -88,7 +89,7 @@ pub record IsOf (program : Program) (p : Process) : Type 0 where
 pub record Fits (layout : Layout) (store : List ℤ) : Type 0 where
   pub units : length store ≡ length layout.first
 
--- a line that a statement may be run with: that of a PRINT has no item yet
+-- a line that a statement may be run with: that of a PRINT is empty
 abbrev pub HoldsItems : Stmt → List ℕ → Type 0
 HoldsItems (Print items) line = line ≡ []
 HoldsItems _ line = Unit {0}
@@ -98,7 +99,7 @@ abbrev pub HoldsItemsAt : Option Listed → List ℕ → Type 0
 HoldsItemsAt None line = Unit {0}
 HoldsItemsAt (Some listed) line = HoldsItems listed.stmt line
 
--- the line with which a process takes its next step: where its statement is a PRINT, it holds the items so far, and
--- there are none before a step, since no item reads yet
+-- the line with which a process takes its next step: where its statement is a PRINT, it is empty, since each step makes
+-- the line anew from the values that the statement has read
 pub record IsLineOf (program : Program) (p : Process) (line : List ℕ) : Type 0 where
   pub holds : HoldsItemsAt (listed_at program p) line

@@ -3,7 +3,7 @@ use Rattle.std.specs.Prelude.{ℕ, ◌+◌, ℤ, List, [], ◌∷◌, ◌++◌, 
 use Rattle.f77_ast.specs.declared.program.Listed.{Listed}
 use Rattle.f77_ast.specs.declared.program.Program.{Program}
 use Rattle.f77_ast.specs.declared.program.Layout.{Layout}
-use Rattle.f77_ast.specs.declared.stmt.Stmt.{Stmt, Assign, Print}
+use Rattle.f77_ast.specs.declared.stmt.Stmt.{Stmt, Assign, Print, End}
 use Rattle.f77_meaning.specs.Assign.{Written, written_of}
 use Rattle.f77_meaning.specs.Demand.{Demand, gives, wants, fails}
 use Rattle.f77_meaning.specs.Event.{Event, reads, writes, moves, prints, ends, faults}
@@ -23,11 +23,11 @@ write_event (wants address) = reads address None
 write_event (fails fault) = faults fault
 
 -- the next event of a statement of a unit that has read these values: END of the main unit ends the run (ANSI
--- X3.9-1978, section 11.14);
--- the other statements have no meaning yet, and no accepted program has one
+-- X3.9-1978, section 11.14). The other statements have no meaning yet, and no process of an accepted program comes to one
 abbrev pub statement_event : Layout → (unit : ℕ) → Stmt → List ℤ → Event
 statement_event layout unit (Assign target value) answers = write_event (written_of layout unit target value answers)
 statement_event layout unit (Print items) answers = print_event (line_of_items layout unit items answers)
+statement_event layout unit End answers = ends
 statement_event layout unit _ answers = ends
 
 -- the same, where there may be no statement; no process of an accepted program goes past its END

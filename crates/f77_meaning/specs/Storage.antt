@@ -1,6 +1,7 @@
 -- The storage units of the entities of a program (ANSI X3.9-1978, sections 2.13, 5.1.2, 5.2.5, 5.4 and 17.1.1).
 use Rattle.std.specs.Prelude.{◌≡◌, ℕ, ◌+◌, ◌≤◌, ◌^◌, pos, Bool, true, false, List, [], ◌∷◌, length, map, All, take, Option, None, Some, slice_get}
 use Rattle.std.specs.List.{repeat}
+use Rattle.std.specs.Option.{is_some}
 use Rattle.f77_ast.specs.declared.expr.Expr.{Expr, out-Expr}
 use Rattle.f77_ast.specs.declared.expr.Expr.TheOpen.{Expr-F, Part-F, Ref-F}
 use Rattle.f77_ast.specs.declared.expr.Expr.TheOpen as layer
@@ -51,10 +52,14 @@ abbrev pub is_scalar : List Bound → Bool
 is_scalar [] = true
 is_scalar _ = false
 
+-- how many elements an array of one dimension has; none for what is no such array
+abbrev pub vector_extent : List Bound → Option ℕ
+vector_extent (bound ∷ []) = Some (extent_of bound)
+vector_extent _ = None
+
 -- whether it is an array of one dimension
 abbrev pub is_vector : List Bound → Bool
-is_vector (bound ∷ []) = true
-is_vector _ = false
+is_vector bounds = is_some (vector_extent bounds)
 
 -- whether it has an address
 abbrev pub is_stored : Place → Bool
@@ -71,8 +76,9 @@ pub record LiesIn (total : ℕ) (entity : Entity) : Type 0 where
   pub stored : is_stored entity.place ≡ true
   pub within : start_of entity + units_of entity ≤ total
 
--- each entity lies in the storage, each unit of which has an address of 32 bits
+-- there is an opening value for each unit of storage, each entity lies in it, and addresses have 32 bits
 pub record IsStorage (layout : Layout) : Type 0 where
+  pub total : layout.total ≡ length layout.first
   pub lie : All (LiesIn (length layout.first)) layout.entities
   pub small : length layout.first ≤ 2 ^ 32
 
@@ -80,8 +86,9 @@ pub record IsStorage (layout : Layout) : Type 0 where
 abbrev pub region_of : Entity → Region
 region_of entity = record { start = start_of entity; len = units_of entity }
 
--- the layout of one unit without COMMON and EQUIVALENCE, for all of its entities at once: each stands where those before
--- it end and is a region of its own, and each unit is 0 before the first step
+-- the layout of a file of one program unit without COMMON and EQUIVALENCE, for all of its entities at once: each stands
+-- where those before it end and is a region of its own, and each storage unit is 0 before the first step. Which entities
+-- there are, and in which order, is said where the program is made.
 pub record IsLaidOut (layout : Layout) : Type 0 where
   pub placed : (k : ℕ) (entity : Entity) → slice_get layout.entities k ≡ Some entity → entity.place ≡ Stored (units_of_all (take k layout.entities))
   pub regions : layout.regions ≡ map region_of layout.entities
