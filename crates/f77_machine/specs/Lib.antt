@@ -1,7 +1,9 @@
-pub mod Demand
+pub mod Answer
+pub mod Chain
 pub mod Input
 pub mod Line
 pub mod Number
 pub mod Print
 pub mod Process
+pub mod Reads
 pub mod Store

@@ -1,6 +1,7 @@
 -- What a process stands for.
 use Rattle.std.specs.Prelude.{◌≡◌}
 use Rattle.f77_ast.specs.declared.program.Program.{Program}
+use Rattle.f77_machine.specs.Reads.{HasRoom}
 use Rattle.f77_machine.specs.declared.process.Process.{Process}
 use Rattle.f77_meaning.specs.Process.{listed_at, line_of}
 use Rattle.f77_meaning.specs.Process as meaning
@@ -14,11 +15,13 @@ process_of p = record { unit = p.unit; at = p.at; answers = p.answers.items }
 abbrev pub HasLine : Program → Process → Type 0
 HasLine program p = p.line ≡ line_of (listed_at program (process_of p))
 
--- a process of a program: it stands at a statement, whose line it keeps
+-- a process of a program: it stands at a statement, whose line it keeps, and has room for what any statement reads
 pub record IsProcessOf (program : Program) (p : Process) : Type 0 where
   pub stands : IsOf program (process_of p)
   pub line : HasLine program p
+  pub room : HasRoom program p.room
 
--- where a process kept the line of its statement, it keeps that of the statement at which it stands now
-abbrev pub KeepsLine : Program → (old new : Process) → Type 0
-KeepsLine program old new = HasLine program old → HasLine program new
+-- where a process kept the line of its statement, it keeps that of the statement at which it stands now; its room stays
+pub record KeepsPlace (program : Program) (old new : Process) : Type 0 where
+  pub line : HasLine program old → HasLine program new
+  pub room : new.room ≡ old.room

@@ -3,12 +3,17 @@
 //! What a step does is a definition of `f77_meaning`: each contract here cites it.
 #![tactic(auto)]
 
+pub mod answer;
+mod assign;
+mod chain;
 pub mod demand;
 pub mod input;
 pub mod line;
 mod number;
+mod place;
 mod print;
 pub mod process;
+mod reads;
 pub mod store;
 #[cfg(test)]
 mod tests;

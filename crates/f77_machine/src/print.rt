@@ -1,69 +1,95 @@
 //! The items of PRINT (ANSI X3.9-1978, section 12.8).
-ghost use Rattle.std.specs.Prelude.{◌≡◌, []};
+ghost use Rattle.std.specs.Prelude.{◌≡◌, [], IsTrue, length};
 ghost use Rattle.hyb_base.specs.Decimal.{decimal_of};
 ghost use Rattle.f77_meaning.specs.Print.{item_of, items_of, line_of_items, with_item};
+ghost use Rattle.f77_meaning.specs.Sound.{item_resolves, items_resolve};
+ghost use Rattle.f77_meaning.specs.Storage.{IsStorage};
+ghost use Rattle.f77_machine.specs.Answer.{Asks};
 ghost use Rattle.f77_machine.specs.Line.{text_of};
 ghost use Rattle.f77_machine.specs.Print.{as_line};
+ghost use Rattle.f77_machine.specs.Reads.{item_reads, items_reads};
 
-use crate::demand::{Answer, demand};
+use crate::answer::Answer;
+use crate::demand::demand;
 use crate::line::Line;
-use f77_ast::refusal::Fault;
+use f77_ast::program::Layout;
 use f77_ast::stmt::Item;
 
-/// What items come to, beside what they leave in the line.
-#[derive(Clone, Copy, Debug)]
-pub enum Printing<'a> {
-    /// All of them stand in the line: the answers that are left.
-    Done(&'a [i64]),
-    /// A fault.
-    Fails(Fault),
-}
-
 /// Adds one item to the line. An implied DO has no meaning yet.
-pub fn print_item<'a>(item: &Item, line: &mut Line, answers: &'a [i64]) -> Printing<'a>
-    ensures { as_line result (text_of line.new) ≡ item_of item.now (text_of line.old) answers.now }
+pub fn print_item<'a>(
+    layout: &Layout,
+    unit: u32,
+    item: &Item,
+    line: &mut Line,
+    answers: &'a [i64],
+) -> Answer<'a, ()>
+    requires storage { IsStorage layout.now }
+    requires resolves { IsTrue (item_resolves layout.now unit item.now) }
+    ensures value { as_line result (text_of line.new) ≡ item_of layout.now unit item.now (text_of line.old) answers.now }
+    ensures asks { Asks (length layout.now.first) (item_reads item.now) (length answers.now) result }
 {
     match item {
-        Item::Plain(expr) => match demand(expr, answers) {
+        Item::Plain(expr) => match demand(layout, unit, expr, answers) {
             Answer::Gives(value, rest) => print_value(value, line, rest),
-            Answer::Fails(fault) => Printing::Fails(fault),
+            Answer::Wants(address) => Answer::Wants(address),
+            Answer::Fails(fault) => Answer::Fails(fault),
         },
-        Item::Implied(_, _) => Printing::Done(answers),
+        Item::Implied(_, _) => Answer::Gives((), answers),
     }
 }
 
 /// Adds a value to the line.
-fn print_value<'a>(value: i64, line: &mut Line, rest: &'a [i64]) -> Printing<'a>
-    ensures { as_line result (text_of line.new) ≡ with_item (text_of line.old) (decimal_of value) rest.now }
+fn print_value<'a>(value: i64, line: &mut Line, rest: &'a [i64]) -> Answer<'a, ()>
+    ensures value { as_line result (text_of line.new) ≡ with_item (text_of line.old) (decimal_of value) rest.now }
+    ensures asks { Asks 0 0 (length rest.now) result }
 {
     match line.push_int(value) {
-        Ok(()) => Printing::Done(rest),
-        Err(fault) => Printing::Fails(fault),
+        Ok(()) => Answer::Gives((), rest),
+        Err(fault) => Answer::Fails(fault),
     }
 }
 
 /// Adds items to the line, from left to right.
-pub fn print_items<'a>(items: &[Item], line: &mut Line, answers: &'a [i64]) -> Printing<'a>
-    ensures { as_line result (text_of line.new) ≡ items_of items.now (text_of line.old) answers.now }
+pub fn print_items<'a>(
+    layout: &Layout,
+    unit: u32,
+    items: &[Item],
+    line: &mut Line,
+    answers: &'a [i64],
+) -> Answer<'a, ()>
+    requires storage { IsStorage layout.now }
+    requires resolves { IsTrue (items_resolve layout.now unit items.now) }
+    ensures value { as_line result (text_of line.new) ≡ items_of layout.now unit items.now (text_of line.old) answers.now }
+    ensures asks { Asks (length layout.now.first) (items_reads items.now) (length answers.now) result }
 {
     let mut left = answers;
     for item in items {
-        match print_item(item, line, left) {
-            Printing::Done(rest) => left = rest,
-            Printing::Fails(fault) => return Printing::Fails(fault),
+        match print_item(layout, unit, item, line, left) {
+            Answer::Gives((), rest) => left = rest,
+            Answer::Wants(address) => return Answer::Wants(address),
+            Answer::Fails(fault) => return Answer::Fails(fault),
         }
     }
-    Printing::Done(left)
+    Answer::Gives((), left)
 }
 
 /// The line of a PRINT: one blank and the text for each item, and one blank where there is no item.
-pub fn print_line<'a>(items: &[Item], line: &mut Line, answers: &'a [i64]) -> Printing<'a>
-    requires { text_of line.old ≡ [] }
-    ensures { as_line result (text_of line.new) ≡ line_of_items items.now answers.now }
+pub fn print_line<'a>(
+    layout: &Layout,
+    unit: u32,
+    items: &[Item],
+    line: &mut Line,
+    answers: &'a [i64],
+) -> Answer<'a, ()>
+    requires storage { IsStorage layout.now }
+    requires resolves { IsTrue (items_resolve layout.now unit items.now) }
+    requires line { text_of line.old ≡ [] }
+    ensures value { as_line result (text_of line.new) ≡ line_of_items layout.now unit items.now answers.now }
+    ensures asks { Asks (length layout.now.first) (items_reads items.now) (length answers.now) result }
 {
     if items.is_empty() {
         line.set_blank();
-        return Printing::Done(answers);
+        return Answer::Gives((), answers);
     }
-    print_items(items, line, answers)
+    print_items(layout, unit, items, line, answers)
 }

@@ -1,12 +1,16 @@
 //! Processes: one step at a time through the statements of a program.
 ghost use Rattle.std.specs.Prelude.{◌≡◌, ◌+◌, ◌^◌, ◌<◌, ◌≤◌, OnSome, vec_capacity};
 ghost use Rattle.std.specs.Option.{option_copied};
-ghost use Rattle.f77_meaning.specs.Process.{statement_at, line_of};
+ghost use Rattle.f77_meaning.specs.Process.{statement_at, line_of, first_executable, entry_of, is_executable};
 
+use crate::answer::Answer;
+use crate::assign::assigned;
 use crate::input::Input;
 use crate::line::Line;
-use crate::print::{Printing, print_line};
-use f77_ast::program::{Listed, Program};
+use crate::print::print_line;
+use crate::reads::room_for;
+use f77_ast::expr::{Expr, Ref};
+use f77_ast::program::{Listed, Listing, Program};
 use f77_ast::step::Stepped;
 use f77_ast::stmt::{Item, Stmt};
 use hyb_base::cells::Cells;
@@ -14,15 +18,12 @@ use hyb_base::no_memory::NoMemory;
 use sqlite_items::Items;
 use std::alloc::Global;
 
-/// The most values that one statement reads: PRINT of numbers and END read none.
-const MOST_ANSWERS: usize = 0;
-
 /// A process that runs a program: the statement at which it stands, and the values that this statement has read.
 ///
 /// The room for these values is reserved when the process is made, so a step takes no memory.
 #[derive(Drop)]
 pub struct Process {
-    unit: usize,
+    unit: u32,
     at: usize,
     line: u32,
     answers: Vec<i64>,
@@ -31,29 +32,35 @@ pub struct Process {
 }
 
 impl Process {
-    ghost use Rattle.std.specs.Prelude.{◌≡◌, ◌+◌, ◌^◌, ◌<◌, ℕ, ℤ, List, [], IfOk};
+    ghost use Rattle.std.specs.Prelude.{◌≡◌, ◌+◌, ◌^◌, ◌<◌, ◌≤◌, ℕ, List, [], None, IfOk, IsTrue, length};
     ghost use Rattle.f77_ast.specs.declared.program.Program.{Program};
+    ghost use Rattle.f77_meaning.specs.Assign.{written_of};
+    ghost use Rattle.f77_meaning.specs.Event.{reads};
     ghost use Rattle.f77_meaning.specs.Next.{next, next_by, next_of};
-    ghost use Rattle.f77_meaning.specs.Process.{first_process, listed_at};
-    ghost use Rattle.f77_meaning.specs.Sound.{IsSound, Fits, IsLineOf, HoldsItems};
-    ghost use Rattle.f77_meaning.specs.Step.{at_next, print_event, statement_event};
     ghost use Rattle.f77_meaning.specs.Print.{line_of_items};
+    ghost use Rattle.f77_meaning.specs.Process.{first_process, listed_at};
+    ghost use Rattle.f77_meaning.specs.Sound.{IsSound, Fits, IsLineOf, HoldsItems, statement_resolves, items_resolve, ref_resolves, resolves};
+    ghost use Rattle.f77_meaning.specs.Step.{at_next, print_event, write_event, statement_event};
+    ghost use Rattle.f77_meaning.specs.Storage.{IsStorage};
     ghost use Rattle.f77_machine.specs.Input.{left_of};
     ghost use Rattle.f77_machine.specs.Line.{text_of};
-    ghost use Rattle.f77_machine.specs.Process.{process_of, IsProcessOf, KeepsLine};
+    ghost use Rattle.f77_machine.specs.Process.{process_of, IsProcessOf, KeepsPlace};
+    ghost use Rattle.f77_machine.specs.Reads.{statement_reads, items_reads, subscript_reads, reads_in};
 
-    /// A process at the first statement of the main unit. It reserves what its steps need.
+    /// A process at the first executable statement of the main unit. It reserves what its steps need.
     pub fn new(alloc: Global, program: &Program) -> Result<Process, NoMemory>
         requires sound { IsSound program.now }
-        ensures first { IfOk result (λ p. process_of p ≡ first_process) }
+        ensures first { IfOk result (λ p. process_of p ≡ first_process program.now) }
         ensures is_of { IfOk result (λ p. IsProcessOf program.now p) }
     {
+        let room = room_for(program).ok_or(NoMemory)?;
+        let at = entry(program);
         Ok(Process {
             unit: 0,
-            at: 0,
-            line: line_at(program, 0, 0),
-            answers: Vec::with_capacity(alloc, MOST_ANSWERS)?,
-            room: MOST_ANSWERS,
+            at,
+            line: line_at(program, 0, at),
+            answers: Vec::with_capacity(alloc, room)?,
+            room,
         })
     }
 
@@ -80,11 +87,10 @@ impl Process {
         self.line
     }
 
-    /// One step: the statement's next event, and what it does to storage. It takes no memory, and its time does not
-    /// depend on the size of storage.
+    /// One step: the statement's next event, and what it does to storage. It takes no memory.
     ///
-    /// Before a step of a PRINT the line is empty. After `Printed` it holds the printed line, and the caller clears
-    /// it before the next step; after any other answer it is as before.
+    /// Every address may be got. Before a step of a PRINT the line is empty. After `Printed` it holds the printed
+    /// line, and the caller clears it before the next step; after any other answer it is as before.
     pub fn step<C: Cells>(
         &mut self,
         program: &Program,
@@ -95,6 +101,7 @@ impl Process {
         requires sound { IsSound program.now }
         requires is_of { IsProcessOf program.now self.old }
         requires fits { Fits program.now.layout (C.values cells.old) }
+        requires allowed { (address : ℕ) → IsTrue (C.may_get cells.old address) }
         requires items { IsLineOf program.now (process_of self.old) (text_of line.old) }
 
         ensures next { next_of result (process_of self.new) (C.values cells.new) (C.reads cells.new) (text_of line.new)
@@ -106,49 +113,132 @@ impl Process {
     {
         match statement_at(program, self.unit, self.at) {
             None => Stepped::Ended,
-            Some(listed) => self.statement(program, &listed.stmt, line),
+            Some(listed) => self.statement(program, &listed.stmt, cells, line),
         }
     }
 
     /// A step of a statement.
-    fn statement(&mut self, program: &Program, stmt: &Stmt, line: &mut Line) -> Stepped
+    fn statement<C: Cells>(
+        &mut self,
+        program: &Program,
+        stmt: &Stmt,
+        cells: &mut C,
+        line: &mut Line,
+    ) -> Stepped
+        requires storage { IsStorage program.now.layout }
+        requires resolves { IsTrue (statement_resolves program.now.layout self.old.unit stmt.now) }
+        requires room { statement_reads stmt.now ≤ self.old.room }
+        requires fits { Fits program.now.layout (C.values cells.old) }
+        requires allowed { (address : ℕ) → IsTrue (C.may_get cells.old address) }
         requires items { HoldsItems stmt.now (text_of line.old) }
         requires after { self.old.at + 1 < 2 ^ 64 }
-        ensures next { (store : List ℤ) (count : ℕ) → next_of result (process_of self.new) store count (text_of line.new)
-            ≡ next_by (statement_event stmt.now self.old.answers.items) (process_of self.old) store count (text_of line.old) }
-        ensures line { KeepsLine program.now self.old self.new }
+        ensures next { next_of result (process_of self.new) (C.values cells.new) (C.reads cells.new) (text_of line.new)
+            ≡ next_by (statement_event program.now.layout self.old.unit stmt.now self.old.answers.items) (process_of self.old) (C.values cells.old) (C.reads cells.old) (text_of line.old) }
+        ensures fits { Fits program.now.layout (C.values cells.new) }
+        ensures same_test { C.may_get cells.new ≡ C.may_get cells.old }
+        ensures place { KeepsPlace program.now self.old self.new }
     {
         match stmt {
-            Stmt::Print(items) => self.print(program, items, line),
+            Stmt::Assign { target, value } => self.assign(program, target, value, cells),
+            Stmt::Print(items) => self.print(program, items, cells, line),
             _ => Stepped::Ended,
         }
     }
 
+    /// A step of an assignment.
+    fn assign<C: Cells>(
+        &mut self,
+        program: &Program,
+        target: &Ref,
+        value: &Expr,
+        cells: &mut C,
+    ) -> Stepped
+        requires storage { IsStorage program.now.layout }
+        requires target { IsTrue (ref_resolves program.now.layout self.old.unit target.now) }
+        requires value { IsTrue (resolves program.now.layout self.old.unit value.now) }
+        requires room { subscript_reads target.now + reads_in value.now ≤ self.old.room }
+        requires fits { Fits program.now.layout (C.values cells.old) }
+        requires allowed { (address : ℕ) → IsTrue (C.may_get cells.old address) }
+        requires after { self.old.at + 1 < 2 ^ 64 }
+        ensures next { (text : List ℕ) → next_of result (process_of self.new) (C.values cells.new) (C.reads cells.new) text
+            ≡ next_by (write_event (written_of program.now.layout self.old.unit target.now value.now self.old.answers.items)) (process_of self.old) (C.values cells.old) (C.reads cells.old) text }
+        ensures fits { Fits program.now.layout (C.values cells.new) }
+        ensures same_test { C.may_get cells.new ≡ C.may_get cells.old }
+        ensures place { KeepsPlace program.now self.old self.new }
+    {
+        match assigned(&program.layout, self.unit, target, value, self.answers.as_slice()) {
+            Answer::Gives((address, value), _rest) => {
+                cells.put(address, value);
+                self.go_on(program);
+                Stepped::Wrote {
+                    address,
+                    by: None,
+                    control: None,
+                }
+            }
+            Answer::Wants(address) => self.read(address, cells),
+            Answer::Fails(fault) => Stepped::Faulted(fault),
+        }
+    }
+
     /// A step of a PRINT.
-    fn print(&mut self, program: &Program, items: &Items<Item>, line: &mut Line) -> Stepped
+    fn print<C: Cells>(
+        &mut self,
+        program: &Program,
+        items: &Items<Item>,
+        cells: &mut C,
+        line: &mut Line,
+    ) -> Stepped
+        requires storage { IsStorage program.now.layout }
+        requires resolves { IsTrue (items_resolve program.now.layout self.old.unit items.now) }
+        requires room { items_reads items.now ≤ self.old.room }
+        requires fits { Fits program.now.layout (C.values cells.old) }
+        requires allowed { (address : ℕ) → IsTrue (C.may_get cells.old address) }
         requires items { text_of line.old ≡ [] }
         requires after { self.old.at + 1 < 2 ^ 64 }
-        ensures next { (store : List ℤ) (count : ℕ) → next_of result (process_of self.new) store count (text_of line.new)
-            ≡ next_by (print_event (line_of_items items.now self.old.answers.items)) (process_of self.old) store count (text_of line.old) }
-        ensures line { KeepsLine program.now self.old self.new }
+        ensures next { next_of result (process_of self.new) (C.values cells.new) (C.reads cells.new) (text_of line.new)
+            ≡ next_by (print_event (line_of_items program.now.layout self.old.unit items.now self.old.answers.items)) (process_of self.old) (C.values cells.old) (C.reads cells.old) (text_of line.old) }
+        ensures fits { Fits program.now.layout (C.values cells.new) }
+        ensures same_test { C.may_get cells.new ≡ C.may_get cells.old }
+        ensures place { KeepsPlace program.now self.old self.new }
     {
-        match print_line(items.as_slice(), line, self.answers.as_slice()) {
-            Printing::Done(_rest) => {
+        match print_line(&program.layout, self.unit, items.as_slice(), line, self.answers.as_slice()) {
+            Answer::Gives((), _rest) => {
                 self.go_on(program);
                 Stepped::Printed
             }
-            Printing::Fails(fault) => {
+            Answer::Wants(address) => {
+                line.clear();
+                self.read(address, cells)
+            }
+            Answer::Fails(fault) => {
                 line.clear();
                 Stepped::Faulted(fault)
             }
         }
     }
 
+    /// Reads a unit, and keeps its value beside those that the statement has read.
+    fn read<C: Cells>(&mut self, address: u32, cells: &mut C) -> Stepped
+        requires within { address < length (C.values cells.old) }
+        requires allowed { IsTrue (C.may_get cells.old address) }
+        requires room { length self.old.answers.items < self.old.room }
+        ensures next { (text : List ℕ) → next_of result (process_of self.new) (C.values cells.new) (C.reads cells.new) text
+            ≡ next_by (reads address None) (process_of self.old) (C.values cells.old) (C.reads cells.old) text }
+        ensures values { C.values cells.new ≡ C.values cells.old }
+        ensures same_test { C.may_get cells.new ≡ C.may_get cells.old }
+        ensures place { (program : Program) → KeepsPlace program self.old self.new }
+    {
+        let value = cells.get(address);
+        self.answers.push_reserved(value);
+        Stepped::Read { address, by: None }
+    }
+
     /// Goes on with the next statement.
     fn go_on(&mut self, program: &Program)
         requires after { self.old.at + 1 < 2 ^ 64 }
         ensures process { process_of self.new ≡ at_next (process_of self.old) }
-        ensures line { KeepsLine program.now self.old self.new }
+        ensures place { KeepsPlace program.now self.old self.new }
     {
         self.at += 1;
         self.answers.clear();
@@ -156,16 +246,57 @@ impl Process {
     }
 }
 
+/// The place of the first executable statement of the main unit.
+fn entry(program: &Program) -> usize
+    ensures { result ≡ entry_of program.now.units }
+{
+    match program.units.get(0) {
+        None => 0,
+        Some(main) => first_executable(&main.listing),
+    }
+}
+
+/// The place of the first executable statement.
+fn first_executable(listing: &Listing) -> usize
+    ensures { result ≡ first_executable listing.now }
+{
+    listing
+        .as_slice()
+        .iter()
+        .take_while(|listed| !is_executable(&listed.stmt))
+        .count()
+}
+
+/// Whether a statement is executable (ANSI X3.9-1978, section 7).
+fn is_executable(stmt: &Stmt) -> bool
+    ensures { result ≡ is_executable stmt.now }
+{
+    match stmt {
+        Stmt::Program(_) => false,
+        Stmt::Subroutine { .. } => false,
+        Stmt::Function { .. } => false,
+        Stmt::Declare { .. } => false,
+        Stmt::Dimension(_) => false,
+        Stmt::Common(_) => false,
+        Stmt::Equivalence(_) => false,
+        Stmt::Parameter(_) => false,
+        Stmt::Implicit(_) => false,
+        Stmt::Save(_) => false,
+        Stmt::Init(_) => false,
+        _ => true,
+    }
+}
+
 /// The statement at a place of a unit, both counted from 0.
-fn statement_at(program: &Program, unit: usize, at: usize) -> Option<&Listed>
+fn statement_at(program: &Program, unit: u32, at: usize) -> Option<&Listed>
     ensures listed { option_copied result ≡ statement_at program.now unit at }
     ensures after { OnSome result (at + 1 < 2 ^ 64) }
 {
-    program.units.get(unit)?.listing.as_slice().get(at)
+    program.units.get(unit as usize)?.listing.as_slice().get(at)
 }
 
 /// The initial line of the statement at a place of a unit.
-fn line_at(program: &Program, unit: usize, at: usize) -> u32
+fn line_at(program: &Program, unit: u32, at: usize) -> u32
     ensures { result ≡ line_of (statement_at program.now unit at) }
 {
     match statement_at(program, unit, at) {

@@ -1,0 +1,210 @@
+//! The right side of an accumulation: a chain of operators from the left side on, or an operator before it.
+ghost use Rattle.std.specs.Prelude.{◌≡◌, ◌+◌, ◌≤◌, IsTrue, IfSome, length};
+ghost use Rattle.std.specs.Option.{option_map};
+ghost use Rattle.f77_meaning.specs.Assign.{stands_in_sum, stands_in_product, is_commutative, is_v, joined_by, held_last, chain_of, last_by, held_of};
+ghost use Rattle.f77_meaning.specs.Demand.{and_then, gives, demand_of};
+ghost use Rattle.f77_meaning.specs.Sound.{resolves};
+ghost use Rattle.f77_meaning.specs.Storage.{IsStorage};
+ghost use Rattle.f77_machine.specs.Answer.{as_demand, Asks};
+ghost use Rattle.f77_machine.specs.Chain.{stands_in, held_at};
+ghost use Rattle.f77_machine.specs.Reads.{reads_in};
+ghost use Rattle.f77_ast.specs.declared.expr.Expr.{out-Expr};
+
+use crate::answer::Answer;
+use crate::demand::demand;
+use f77_ast::expr::{Expr, Op, Ref};
+use f77_ast::program::Layout;
+use f77_trees::same::same_ref;
+use hyb_base::wrap::{wrap_add, wrap_mul, wrap_sub};
+
+/// The chains that an accumulation may be.
+#[derive(Clone, Copy, Debug)]
+pub enum Chain {
+    /// A chain of `+` and `-`.
+    Sum,
+    /// A chain of `*`.
+    Product,
+}
+
+/// Whether an operator stands in a chain.
+fn stands_in(chain: Chain, op: Op) -> bool
+    ensures { result ≡ stands_in chain op }
+{
+    match chain {
+        Chain::Sum => stands_in_sum(op),
+        Chain::Product => stands_in_product(op),
+    }
+}
+
+/// Whether an operator is `+` or `-`.
+fn stands_in_sum(op: Op) -> bool
+    ensures { result ≡ stands_in_sum op }
+{
+    match op {
+        Op::Add => true,
+        Op::Sub => true,
+        _ => false,
+    }
+}
+
+/// Whether an operator is `*`.
+fn stands_in_product(op: Op) -> bool
+    ensures { result ≡ stands_in_product op }
+{
+    match op {
+        Op::Mul => true,
+        _ => false,
+    }
+}
+
+/// Whether an operator is `+` or `*`.
+fn is_commutative(op: Op) -> bool
+    ensures { result ≡ is_commutative op }
+{
+    match op {
+        Op::Add => true,
+        Op::Mul => true,
+        _ => false,
+    }
+}
+
+/// Whether an expression is a reference, spelled as this one.
+fn is_v(v: &Ref, expr: &Expr) -> bool
+    ensures value { result ≡ is_v v.now expr.now }
+    ensures reads { IsTrue result → 1 ≤ reads_in expr.now }
+{
+    match expr {
+        Expr::Ref(reference) => same_ref(v, reference),
+        _ => false,
+    }
+}
+
+/// The value of the right side of an accumulation, where `v` has the value `x` and isn't read: none where the
+/// assignment is no accumulation. The first form that fits counts.
+pub fn held<'a>(
+    layout: &Layout,
+    unit: u32,
+    v: &Ref,
+    expr: &Expr,
+    x: i64,
+    answers: &'a [i64],
+) -> Option<Answer<'a, i64>>
+    requires storage { IsStorage layout.now }
+    requires resolves { IsTrue (resolves layout.now unit expr.now) }
+    ensures value { option_map as_demand result ≡ option_map (held_at x answers.now) (held_of layout.now unit v.now expr.now) }
+    ensures asks { IfSome result (Asks (length layout.now.first) (reads_in expr.now) (1 + length answers.now)) }
+{
+    match chained(layout, unit, v, Chain::Sum, expr, x, answers) {
+        Some(sum) => Some(sum),
+        None => match chained(layout, unit, v, Chain::Product, expr, x, answers) {
+            Some(product) => Some(product),
+            None => last(layout, unit, v, expr, x, answers),
+        },
+    }
+}
+
+/// The value of a chain whose leftmost operand is `v`: none where the expression is no such chain.
+fn chained<'a>(
+    layout: &Layout,
+    unit: u32,
+    v: &Ref,
+    which: Chain,
+    expr: &Expr,
+    x: i64,
+    answers: &'a [i64],
+) -> Option<Answer<'a, i64>>
+    requires storage { IsStorage layout.now }
+    requires resolves { IsTrue (resolves layout.now unit expr.now) }
+    ensures value { option_map as_demand result ≡ option_map (held_at x answers.now) (chain_of layout.now unit v.now (stands_in which) expr.now) }
+    ensures asks { IfSome result (Asks (length layout.now.first) (reads_in expr.now) (1 + length answers.now)) }
+{
+    match expr {
+        Expr::Binary(op, left, right) if stands_in(which, *op) => {
+            if is_v(v, left.get()) {
+                return Some(before(layout, unit, *op, x, right.get(), answers));
+            }
+            match chained(layout, unit, v, which, left.get(), x, answers)? {
+                Answer::Gives(z, rest) => Some(before(layout, unit, *op, z, right.get(), rest)),
+                Answer::Wants(address) => Some(Answer::Wants(address)),
+                Answer::Fails(fault) => Some(Answer::Fails(fault)),
+            }
+        }
+        _ => None,
+    }
+}
+
+/// The value of `e + v` or `e * v`: none where the expression is no such one.
+fn last<'a>(
+    layout: &Layout,
+    unit: u32,
+    v: &Ref,
+    expr: &Expr,
+    x: i64,
+    answers: &'a [i64],
+) -> Option<Answer<'a, i64>>
+    requires storage { IsStorage layout.now }
+    requires resolves { IsTrue (resolves layout.now unit expr.now) }
+    ensures value { option_map as_demand result ≡ option_map (held_at x answers.now) (last_by layout.now unit v.now (out-Expr expr.now)) }
+    ensures asks { IfSome result (Asks (length layout.now.first) (reads_in expr.now) (1 + length answers.now)) }
+{
+    match expr {
+        Expr::Binary(op, left, right) if is_commutative(*op) && is_v(v, right.get()) => {
+            Some(after(layout, unit, *op, left.get(), x, answers))
+        }
+        _ => None,
+    }
+}
+
+/// An operator between a value and an operand to its right.
+fn before<'a>(
+    layout: &Layout,
+    unit: u32,
+    op: Op,
+    x: i64,
+    right: &Expr,
+    answers: &'a [i64],
+) -> Answer<'a, i64>
+    requires storage { IsStorage layout.now }
+    requires resolves { IsTrue (resolves layout.now unit right.now) }
+    ensures value { as_demand result ≡ and_then (demand_of layout.now unit right.now answers.now) (λ y rest. gives (joined_by op x y) rest) }
+    ensures asks { Asks (length layout.now.first) (reads_in right.now) (length answers.now) result }
+{
+    match demand(layout, unit, right, answers) {
+        Answer::Gives(y, rest) => Answer::Gives(joined(op, x, y), rest),
+        Answer::Wants(address) => Answer::Wants(address),
+        Answer::Fails(fault) => Answer::Fails(fault),
+    }
+}
+
+/// An operator between an operand and a value to its right.
+fn after<'a>(
+    layout: &Layout,
+    unit: u32,
+    op: Op,
+    left: &Expr,
+    x: i64,
+    answers: &'a [i64],
+) -> Answer<'a, i64>
+    requires storage { IsStorage layout.now }
+    requires resolves { IsTrue (resolves layout.now unit left.now) }
+    ensures value { as_demand result ≡ held_at x answers.now (held_last op (demand_of layout.now unit left.now)) }
+    ensures asks { Asks (length layout.now.first) (reads_in left.now) (length answers.now) result }
+{
+    match demand(layout, unit, left, answers) {
+        Answer::Gives(y, rest) => Answer::Gives(joined(op, y, x), rest),
+        Answer::Wants(address) => Answer::Wants(address),
+        Answer::Fails(fault) => Answer::Fails(fault),
+    }
+}
+
+/// What an operator of an accumulation gives of its operands.
+fn joined(op: Op, x: i64, y: i64) -> i64
+    ensures { result ≡ joined_by op x y }
+{
+    match op {
+        Op::Add => wrap_add(x, y),
+        Op::Sub => wrap_sub(x, y),
+        Op::Mul => wrap_mul(x, y),
+        _ => 0,
+    }
+}

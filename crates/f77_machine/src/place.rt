@@ -1,0 +1,67 @@
+//! Where entities and their elements lie in storage (ANSI X3.9-1978, sections 5.1.1 and 5.4).
+ghost use Rattle.std.specs.Prelude.{◌≡◌, ◌+◌, ◌<◌, ◌≤◌, ◌^◌, length};
+ghost use Rattle.f77_meaning.specs.Demand.{element_of, offset_of};
+ghost use Rattle.f77_meaning.specs.Storage.{start_of, units_of, vector_extent, upper_of};
+ghost use Rattle.f77_machine.specs.Answer.{as_demand, Asks, Lies};
+
+use crate::answer::Answer;
+use f77_ast::expr::Expr;
+use f77_ast::program::{Entity, Place};
+use f77_ast::refusal::Fault;
+use f77_ast::specification::Bound;
+
+/// The first address of an entity that is stored.
+pub fn start(entity: &Entity) -> u32
+    ensures { result ≡ start_of entity.now }
+{
+    match &entity.place {
+        Place::Stored(address) => *address,
+        Place::Dummy(_) => 0,
+        Place::Constant(_) => 0,
+    }
+}
+
+/// The number of elements of an array of one dimension: none for what is no such array.
+pub fn extent(entity: &Entity) -> Option<u64>
+    ensures { result ≡ vector_extent entity.now.bounds }
+{
+    match entity.bounds.as_slice() {
+        [bound] => Some(upper(bound)),
+        _ => None,
+    }
+}
+
+/// The upper bound of a dimension: digits. Other bounds have no meaning yet.
+fn upper(bound: &Bound) -> u64
+    ensures { result ≡ upper_of bound.now.high }
+{
+    match &bound.high {
+        Some(Expr::Int(value)) if *value >= 0 => *value as u64,
+        _ => 0,
+    }
+}
+
+/// The place of an element by its subscript, from 0: none for a subscript below 1.
+fn offset(subscript: i64) -> Option<u64>
+    ensures { result ≡ offset_of subscript }
+{
+    if subscript < 1 {
+        return None;
+    }
+    Some((subscript - 1) as u64)
+}
+
+/// The address of the element of a subscript; one outside the dimension is a fault.
+pub fn element<'a>(entity: &Entity, subscript: i64, rest: &'a [i64]) -> Answer<'a, u32>
+    requires within { start_of entity.now + units_of entity.now ≤ 2 ^ 32 }
+    ensures value { as_demand result ≡ element_of entity.now subscript rest.now }
+    ensures asks { Asks 0 0 (length rest.now) result }
+    ensures lies { Lies (start_of entity.now + units_of entity.now) result }
+{
+    match (extent(entity), offset(subscript)) {
+        (Some(extent), Some(place)) if place < extent => {
+            Answer::Gives(start(entity) + place as u32, rest)
+        }
+        _ => Answer::Fails(Fault::Subscript),
+    }
+}

@@ -1,0 +1,91 @@
+//! How many units the statements of a program read at most.
+ghost use Rattle.std.specs.Prelude.{◌≡◌, ◌≤◌, IfSome};
+ghost use Rattle.f77_machine.specs.Reads.{reads_in, subscript_reads, item_reads, items_reads, statement_reads, AllHaveRoom, HasRoom};
+
+use f77_ast::expr::{Expr, Ref};
+use f77_ast::program::{Listing, Program};
+use f77_ast::stmt::{Item, Stmt};
+
+/// How many units an expression reads at most: none where that passes 64 bits.
+#[cycle(reads)]
+fn reads_in(expr: &Expr) -> Option<usize>
+    ensures { IfSome result (λ n. n ≡ reads_in expr.now) }
+{
+    match expr {
+        Expr::Int(_) => Some(0),
+        Expr::Truth(_) => Some(0),
+        Expr::Chars(_) => Some(0),
+        Expr::Ref(reference) => subscript_reads(reference)?.checked_add(1),
+        Expr::Unary(_, operand) => reads_in(operand.get()),
+        Expr::Binary(_, left, right) => reads_in(left.get())?.checked_add(reads_in(right.get())?),
+        Expr::Paren(inner) => reads_in(inner.get()),
+    }
+}
+
+/// The same of the subscripts of a reference.
+#[cycle(reads)]
+fn subscript_reads(reference: &Ref) -> Option<usize>
+    ensures { IfSome result (λ n. n ≡ subscript_reads reference.now) }
+{
+    match &reference.args {
+        None => Some(0),
+        Some(args) => match args.as_slice() {
+            [subscript] => reads_in(subscript),
+            _ => Some(0),
+        },
+    }
+}
+
+/// The same of an item.
+fn item_reads(item: &Item) -> Option<usize>
+    ensures { IfSome result (λ n. n ≡ item_reads item.now) }
+{
+    match item {
+        Item::Plain(expr) => reads_in(expr),
+        Item::Implied(_, _) => Some(0),
+    }
+}
+
+/// The same of items.
+fn items_reads(items: &[Item]) -> Option<usize>
+    ensures { IfSome result (λ n. n ≡ items_reads items.now) }
+{
+    let mut sum: usize = 0;
+    for item in items {
+        sum = sum.checked_add(item_reads(item)?)?;
+    }
+    Some(sum)
+}
+
+/// The same of a statement.
+fn statement_reads(stmt: &Stmt) -> Option<usize>
+    ensures { IfSome result (λ n. n ≡ statement_reads stmt.now) }
+{
+    match stmt {
+        Stmt::Assign { target, value } => subscript_reads(target)?.checked_add(reads_in(value)?),
+        Stmt::Print(items) => items_reads(items.as_slice()),
+        _ => Some(0),
+    }
+}
+
+/// The most that a statement of some statements reads.
+fn most_in(listing: &Listing) -> Option<usize>
+    ensures { IfSome result (λ room. AllHaveRoom listing.now room) }
+{
+    let mut most = 0;
+    for listed in listing.as_slice() {
+        most = most.max(statement_reads(&listed.stmt)?);
+    }
+    Some(most)
+}
+
+/// Room for the units that any statement of a program reads: none where that passes 64 bits.
+pub fn room_for(program: &Program) -> Option<usize>
+    ensures { IfSome result (HasRoom program.now) }
+{
+    let mut most = 0;
+    for unit in program.units.as_slice() {
+        most = most.max(most_in(&unit.listing)?);
+    }
+    Some(most)
+}
