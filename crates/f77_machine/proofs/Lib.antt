@@ -1,2 +1,4 @@
+pub mod Assigned
+pub mod Chains
+pub mod Entities
 pub mod Numbers
-pub mod Resolved

@@ -3,7 +3,6 @@ ghost use Rattle.std.specs.Prelude.{◌≡◌, ◌+◌, ◌<◌, ℤ, IsTrue, So
 ghost use Rattle.std.specs.Option.{option_map};
 ghost use Rattle.f77_meaning.specs.Assign.{Held, accumulated, plainly, written_of, held_of};
 ghost use Rattle.f77_meaning.specs.Demand.{demand_of};
-ghost use Rattle.f77_meaning.specs.Sound.{resolves, ref_resolves};
 ghost use Rattle.f77_meaning.specs.Storage.{IsStorage};
 ghost use Rattle.f77_machine.specs.Answer.{as_demand, Asks, LiesFirst};
 ghost use Rattle.f77_machine.specs.Chain.{held_at};
@@ -25,8 +24,6 @@ pub fn assigned<'a>(
     answers: &'a [i64],
 ) -> Answer<'a, (u32, i64)>
     requires storage { IsStorage layout.now }
-    requires target { IsTrue (ref_resolves layout.now unit target.now) }
-    requires value { IsTrue (resolves layout.now unit value.now) }
     ensures value { as_demand result ≡ written_of layout.now unit target.now value.now answers.now }
     ensures asks { Asks (length layout.now.first) (subscript_reads target.now + reads_in value.now) (length answers.now) result }
     ensures lies { LiesFirst (length layout.now.first) result }
@@ -50,7 +47,6 @@ fn plain<'a>(
     rest: &'a [i64],
 ) -> Answer<'a, (u32, i64)>
     requires storage { IsStorage layout.now }
-    requires value { IsTrue (resolves layout.now unit value.now) }
     requires lies { address < length layout.now.first }
     ensures value { as_demand result ≡ plainly address (demand_of layout.now unit value.now) rest.now }
     ensures asks { Asks (length layout.now.first) (reads_in value.now) (length rest.now) result }
@@ -75,7 +71,6 @@ fn accumulated<'a>(
     rest: &'a [i64],
 ) -> Answer<'a, (u32, i64)>
     requires storage { IsStorage layout.now }
-    requires value { IsTrue (resolves layout.now unit value.now) }
     requires lies { address < length layout.now.first }
     requires first { Some (as_demand first) ≡ option_map (held_at (pos 0) rest.now) (held_of layout.now unit target.now value.now) }
     requires asked { Asks (length layout.now.first) (reads_in value.now) (1 + length rest.now) first }

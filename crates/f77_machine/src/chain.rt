@@ -1,14 +1,12 @@
 //! The right side of an accumulation: a chain of operators from the left side on, or an operator before it.
-ghost use Rattle.std.specs.Prelude.{◌≡◌, ◌+◌, ◌≤◌, IsTrue, IfSome, length};
+ghost use Rattle.std.specs.Prelude.{◌≡◌, ◌+◌, ◌≤◌, ℕ, suc, IsTrue, IfSome, length};
 ghost use Rattle.std.specs.Option.{option_map};
-ghost use Rattle.f77_meaning.specs.Assign.{stands_in_sum, stands_in_product, is_commutative, is_v, joined_by, held_last, chain_of, last_by, held_of};
-ghost use Rattle.f77_meaning.specs.Demand.{and_then, gives, demand_of};
-ghost use Rattle.f77_meaning.specs.Sound.{resolves};
+ghost use Rattle.f77_meaning.specs.Assign.{stands_in_sum, stands_in_product, is_commutative, is_v, joined_by, held_last, chain_of, last_by, held_of, operation_of, operators_at_left};
+ghost use Rattle.f77_meaning.specs.Demand.{and_then, demand_of};
 ghost use Rattle.f77_meaning.specs.Storage.{IsStorage};
 ghost use Rattle.f77_machine.specs.Answer.{as_demand, Asks};
-ghost use Rattle.f77_machine.specs.Chain.{stands_in, held_at};
+ghost use Rattle.f77_machine.specs.Chain.{as_operation, stands_in, held_at, with_operand};
 ghost use Rattle.f77_machine.specs.Reads.{reads_in};
-ghost use Rattle.f77_ast.specs.declared.expr.Expr.{out-Expr};
 
 use crate::answer::Answer;
 use crate::demand::demand;
@@ -79,6 +77,30 @@ fn is_v(v: &Ref, expr: &Expr) -> bool
     }
 }
 
+/// An operator and its two operands.
+#[derive(Clone, Copy)]
+struct Operation<'t> {
+    op: Op,
+    left: &'t Expr,
+    right: &'t Expr,
+}
+
+/// The operator that stands outermost in an expression, where it has two operands.
+fn outermost(expr: &Expr) -> Option<Operation<'_>>
+    ensures value { option_map as_operation result ≡ operation_of expr.now }
+    ensures operators { IfSome result (λ o. operators_at_left expr.now ≡ suc (operators_at_left o.left.now)) }
+    ensures reads { IfSome result (λ o. reads_in expr.now ≡ reads_in o.left.now + reads_in o.right.now) }
+{
+    match expr {
+        Expr::Binary(op, left, right) => Some(Operation {
+            op: *op,
+            left: left.get(),
+            right: right.get(),
+        }),
+        _ => None,
+    }
+}
+
 /// The value of the right side of an accumulation, where `v` has the value `x` and isn't read: none where the
 /// assignment is no accumulation. The first form that fits counts.
 pub fn held<'a>(
@@ -90,7 +112,6 @@ pub fn held<'a>(
     answers: &'a [i64],
 ) -> Option<Answer<'a, i64>>
     requires storage { IsStorage layout.now }
-    requires resolves { IsTrue (resolves layout.now unit expr.now) }
     ensures value { option_map as_demand result ≡ option_map (held_at x answers.now) (held_of layout.now unit v.now expr.now) }
     ensures asks { IfSome result (Asks (length layout.now.first) (reads_in expr.now) (1 + length answers.now)) }
 {
@@ -104,6 +125,7 @@ pub fn held<'a>(
 }
 
 /// The value of a chain whose leftmost operand is `v`: none where the expression is no such chain.
+#[tactic(auto, using(crate::proofs::Chains::chain_unfolds, crate::proofs::Chains::chain_none, crate::proofs::Chains::longer_at))]
 fn chained<'a>(
     layout: &Layout,
     unit: u32,
@@ -114,22 +136,37 @@ fn chained<'a>(
     answers: &'a [i64],
 ) -> Option<Answer<'a, i64>>
     requires storage { IsStorage layout.now }
-    requires resolves { IsTrue (resolves layout.now unit expr.now) }
     ensures value { option_map as_demand result ≡ option_map (held_at x answers.now) (chain_of layout.now unit v.now (stands_in which) expr.now) }
     ensures asks { IfSome result (Asks (length layout.now.first) (reads_in expr.now) (1 + length answers.now)) }
 {
-    match expr {
-        Expr::Binary(op, left, right) if stands_in(which, *op) => {
-            if is_v(v, left.get()) {
-                return Some(before(layout, unit, *op, x, right.get(), answers));
-            }
-            match chained(layout, unit, v, which, left.get(), x, answers)? {
-                Answer::Gives(z, rest) => Some(before(layout, unit, *op, z, right.get(), rest)),
-                Answer::Wants(address) => Some(Answer::Wants(address)),
-                Answer::Fails(fault) => Some(Answer::Fails(fault)),
-            }
-        }
-        _ => None,
+    let Operation { op, left, right } = outermost(expr)?;
+    if !stands_in(which, op) {
+        return None;
+    }
+    if is_v(v, left) {
+        return Some(before(layout, unit, op, x, right, answers));
+    }
+    let inner = chained(layout, unit, v, which, left, x, answers);
+    longer(layout, unit, op, inner, right)
+}
+
+/// The value of a chain, where there is one, and one operand more to its right.
+fn longer<'a>(
+    layout: &Layout,
+    unit: u32,
+    op: Op,
+    inner: Option<Answer<'a, i64>>,
+    right: &Expr,
+) -> Option<Answer<'a, i64>>
+    requires storage { IsStorage layout.now }
+    ensures value { option_map as_demand result ≡ option_map (λ d. and_then d (with_operand op (demand_of layout.now unit right.now))) (option_map as_demand inner.entry) }
+    ensures asks { (need known : ℕ) → IfSome inner.entry (Asks (length layout.now.first) need known)
+        → IfSome result (Asks (length layout.now.first) (need + reads_in right.now) known) }
+{
+    match inner? {
+        Answer::Gives(z, rest) => Some(before(layout, unit, op, z, right, rest)),
+        Answer::Wants(address) => Some(Answer::Wants(address)),
+        Answer::Fails(fault) => Some(Answer::Fails(fault)),
     }
 }
 
@@ -143,15 +180,14 @@ fn last<'a>(
     answers: &'a [i64],
 ) -> Option<Answer<'a, i64>>
     requires storage { IsStorage layout.now }
-    requires resolves { IsTrue (resolves layout.now unit expr.now) }
-    ensures value { option_map as_demand result ≡ option_map (held_at x answers.now) (last_by layout.now unit v.now (out-Expr expr.now)) }
+    ensures value { option_map as_demand result ≡ option_map (held_at x answers.now) (last_by layout.now unit v.now (operation_of expr.now)) }
     ensures asks { IfSome result (Asks (length layout.now.first) (reads_in expr.now) (1 + length answers.now)) }
 {
-    match expr {
-        Expr::Binary(op, left, right) if is_commutative(*op) && is_v(v, right.get()) => {
-            Some(after(layout, unit, *op, left.get(), x, answers))
-        }
-        _ => None,
+    let Operation { op, left, right } = outermost(expr)?;
+    if is_commutative(op) && is_v(v, right) {
+        Some(after(layout, unit, op, left, x, answers))
+    } else {
+        None
     }
 }
 
@@ -165,8 +201,7 @@ fn before<'a>(
     answers: &'a [i64],
 ) -> Answer<'a, i64>
     requires storage { IsStorage layout.now }
-    requires resolves { IsTrue (resolves layout.now unit right.now) }
-    ensures value { as_demand result ≡ and_then (demand_of layout.now unit right.now answers.now) (λ y rest. gives (joined_by op x y) rest) }
+    ensures value { as_demand result ≡ with_operand op (demand_of layout.now unit right.now) x answers.now }
     ensures asks { Asks (length layout.now.first) (reads_in right.now) (length answers.now) result }
 {
     match demand(layout, unit, right, answers) {
@@ -186,7 +221,6 @@ fn after<'a>(
     answers: &'a [i64],
 ) -> Answer<'a, i64>
     requires storage { IsStorage layout.now }
-    requires resolves { IsTrue (resolves layout.now unit left.now) }
     ensures value { as_demand result ≡ held_at x answers.now (held_last op (demand_of layout.now unit left.now)) }
     ensures asks { Asks (length layout.now.first) (reads_in left.now) (length answers.now) result }
 {

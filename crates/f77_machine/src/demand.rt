@@ -1,14 +1,13 @@
 //! The value of an expression, from the values of the units that it reads (ANSI X3.9-1978, section 6).
-ghost use Rattle.std.specs.Prelude.{◌≡◌, ◌+◌, ◌<◌, ◌≤◌, ◌^◌, Some, map, IsTrue, length};
+ghost use Rattle.std.specs.Prelude.{◌≡◌, ◌+◌, ◌<◌, ◌≤◌, ◌^◌, Some, map, length};
 ghost use Rattle.std.specs.Option.{option_map};
 ghost use Rattle.f77_meaning.specs.Demand.{demand_of, location_of, located, taken, unary_of, binary_of, unless_zero_divisor};
-ghost use Rattle.f77_meaning.specs.Sound.{resolves, resolves_to, ref_resolves};
 ghost use Rattle.f77_meaning.specs.Storage.{IsStorage, LiesIn};
 ghost use Rattle.f77_machine.specs.Answer.{as_demand, Asks, Lies};
 ghost use Rattle.f77_machine.specs.Reads.{reads_in, args_reads, subscript_reads};
 
 use crate::answer::Answer;
-use crate::place::{element, start};
+use crate::place::{element, entity, variable};
 use f77_ast::expr::{Expr, Op, Ref};
 use f77_ast::program::{Entity, Layout};
 use f77_ast::refusal::Fault;
@@ -27,7 +26,6 @@ pub fn demand<'a>(
     answers: &'a [i64],
 ) -> Answer<'a, i64>
     requires storage { IsStorage layout.now }
-    requires resolves { IsTrue (resolves layout.now unit expr.now) }
     ensures value { as_demand result ≡ demand_of layout.now unit expr.now answers.now }
     ensures asks { Asks (length layout.now.first) (reads_in expr.now) (length answers.now) result }
 {
@@ -68,14 +66,13 @@ pub fn location<'a>(
     answers: &'a [i64],
 ) -> Answer<'a, u32>
     requires storage { IsStorage layout.now }
-    requires resolves { IsTrue (ref_resolves layout.now unit reference.now) }
     ensures value { as_demand result ≡ location_of layout.now unit reference.now answers.now }
     ensures asks { Asks (length layout.now.first) (subscript_reads reference.now) (length answers.now) result }
     ensures lies { Lies (length layout.now.first) result }
 {
-    match layout.entities.find(unit, &reference.name) {
+    match entity(layout, unit, &reference.name) {
         Some(entity) => located(layout, unit, entity, &reference.args, answers),
-        None => Answer::Gives(0, answers),
+        None => Answer::Fails(Fault::Subscript),
     }
 }
 
@@ -90,20 +87,20 @@ fn located<'a>(
 ) -> Answer<'a, u32>
     requires storage { IsStorage layout.now }
     requires lies { LiesIn (length layout.now.first) entity.now }
-    requires resolves { IsTrue (resolves_to (Some entity.now) (option_map (map (resolves layout.now unit)) args.now)) }
     ensures value { as_demand result ≡ located (Some entity.now) (option_map (map (demand_of layout.now unit)) args.now) answers.now }
     ensures asks { Asks (length layout.now.first) (args_reads (option_map (map reads_in) args.now)) (length answers.now) result }
     ensures lies { Lies (length layout.now.first) result }
 {
     match args {
-        None => Answer::Gives(start(entity), answers),
+        None => variable(entity, answers),
         Some(subscripts) => match subscripts.as_slice() {
             [subscript] => match demand(layout, unit, subscript, answers) {
                 Answer::Gives(s, rest) => element(entity, s, rest),
                 Answer::Wants(address) => Answer::Wants(address),
                 Answer::Fails(fault) => Answer::Fails(fault),
             },
-            _ => Answer::Gives(0, answers),
+            [] => Answer::Fails(Fault::Subscript),
+            [_, _, ..] => Answer::Fails(Fault::Subscript),
         },
     }
 }

@@ -1,17 +1,30 @@
 //! Where entities and their elements lie in storage (ANSI X3.9-1978, sections 5.1.1 and 5.4).
-ghost use Rattle.std.specs.Prelude.{◌≡◌, ◌+◌, ◌<◌, ◌≤◌, ◌^◌, length};
-ghost use Rattle.f77_meaning.specs.Demand.{element_of, offset_of};
-ghost use Rattle.f77_meaning.specs.Storage.{start_of, units_of, vector_extent, upper_of};
+ghost use Rattle.std.specs.Prelude.{◌≡◌, ◌+◌, ◌<◌, ◌≤◌, ◌^◌, IfSome, length};
+ghost use Rattle.std.specs.Option.{option_copied};
+ghost use Rattle.f77_ast.specs.Entity.{entity_in};
+ghost use Rattle.f77_meaning.specs.Demand.{element_of, offset_of, variable_of};
+ghost use Rattle.f77_meaning.specs.Storage.{IsStorage, LiesIn, start_of, units_of, vector_extent, upper_of};
 ghost use Rattle.f77_machine.specs.Answer.{as_demand, Asks, Lies};
 
 use crate::answer::Answer;
 use f77_ast::expr::Expr;
-use f77_ast::program::{Entity, Place};
+use f77_ast::name::Name;
+use f77_ast::program::{Entity, Layout, Place};
 use f77_ast::refusal::Fault;
 use f77_ast::specification::Bound;
 
+/// The entity that a name stands for in a unit.
+pub fn entity<'l>(layout: &'l Layout, unit: u32, name: &Name) -> Option<&'l Entity>
+    requires storage { IsStorage layout.now }
+    ensures found { option_copied result ≡ entity_in layout.now.entities unit name.now }
+    ensures lies { IfSome result (λ e. LiesIn (length layout.now.first) e.now) }
+{
+    let found = layout.entities.find(unit, name)?;
+    Some(found)
+}
+
 /// The first address of an entity that is stored.
-pub fn start(entity: &Entity) -> u32
+fn start(entity: &Entity) -> u32
     ensures { result ≡ start_of entity.now }
 {
     match &entity.place {
@@ -22,7 +35,7 @@ pub fn start(entity: &Entity) -> u32
 }
 
 /// The number of elements of an array of one dimension: none for what is no such array.
-pub fn extent(entity: &Entity) -> Option<u64>
+fn extent(entity: &Entity) -> Option<u64>
     ensures { result ≡ vector_extent entity.now.bounds }
 {
     match entity.bounds.as_slice() {
@@ -49,6 +62,19 @@ fn offset(subscript: i64) -> Option<u64>
         return None;
     }
     Some((subscript - 1) as u64)
+}
+
+/// The address of a variable; what has a dimension is none.
+pub fn variable<'a>(entity: &Entity, rest: &'a [i64]) -> Answer<'a, u32>
+    ensures value { as_demand result ≡ variable_of entity.now rest.now }
+    ensures asks { Asks 0 0 (length rest.now) result }
+    ensures lies { Lies (start_of entity.now + units_of entity.now) result }
+{
+    if entity.bounds.is_empty() {
+        Answer::Gives(start(entity), rest)
+    } else {
+        Answer::Fails(Fault::Subscript)
+    }
 }
 
 /// The address of the element of a subscript; one outside the dimension is a fault.

@@ -2,7 +2,6 @@
 ghost use Rattle.std.specs.Prelude.{◌≡◌, [], IsTrue, length};
 ghost use Rattle.hyb_base.specs.Decimal.{decimal_of};
 ghost use Rattle.f77_meaning.specs.Print.{item_of, items_of, line_of_items, with_item};
-ghost use Rattle.f77_meaning.specs.Sound.{item_resolves, items_resolve};
 ghost use Rattle.f77_meaning.specs.Storage.{IsStorage};
 ghost use Rattle.f77_machine.specs.Answer.{Asks};
 ghost use Rattle.f77_machine.specs.Line.{text_of};
@@ -24,7 +23,6 @@ pub fn print_item<'a>(
     answers: &'a [i64],
 ) -> Answer<'a, ()>
     requires storage { IsStorage layout.now }
-    requires resolves { IsTrue (item_resolves layout.now unit item.now) }
     ensures value { as_line result (text_of line.new) ≡ item_of layout.now unit item.now (text_of line.old) answers.now }
     ensures asks { Asks (length layout.now.first) (item_reads item.now) (length answers.now) result }
 {
@@ -58,7 +56,6 @@ pub fn print_items<'a>(
     answers: &'a [i64],
 ) -> Answer<'a, ()>
     requires storage { IsStorage layout.now }
-    requires resolves { IsTrue (items_resolve layout.now unit items.now) }
     ensures value { as_line result (text_of line.new) ≡ items_of layout.now unit items.now (text_of line.old) answers.now }
     ensures asks { Asks (length layout.now.first) (items_reads items.now) (length answers.now) result }
 {
@@ -82,7 +79,6 @@ pub fn print_line<'a>(
     answers: &'a [i64],
 ) -> Answer<'a, ()>
     requires storage { IsStorage layout.now }
-    requires resolves { IsTrue (items_resolve layout.now unit items.now) }
     requires line { text_of line.old ≡ [] }
     ensures value { as_line result (text_of line.new) ≡ line_of_items layout.now unit items.now answers.now }
     ensures asks { Asks (length layout.now.first) (items_reads items.now) (length answers.now) result }

@@ -39,7 +39,7 @@ impl Process {
     ghost use Rattle.f77_meaning.specs.Next.{next, next_by, next_of};
     ghost use Rattle.f77_meaning.specs.Print.{line_of_items};
     ghost use Rattle.f77_meaning.specs.Process.{first_process, listed_at};
-    ghost use Rattle.f77_meaning.specs.Sound.{IsSound, Fits, IsLineOf, HoldsItems, statement_resolves, items_resolve, ref_resolves, resolves};
+    ghost use Rattle.f77_meaning.specs.Sound.{IsSound, Fits, IsLineOf, HoldsItems};
     ghost use Rattle.f77_meaning.specs.Step.{at_next, print_event, write_event, statement_event};
     ghost use Rattle.f77_meaning.specs.Storage.{IsStorage};
     ghost use Rattle.f77_machine.specs.Input.{left_of};
@@ -126,7 +126,6 @@ impl Process {
         line: &mut Line,
     ) -> Stepped
         requires storage { IsStorage program.now.layout }
-        requires resolves { IsTrue (statement_resolves program.now.layout self.old.unit stmt.now) }
         requires room { statement_reads stmt.now ≤ self.old.room }
         requires fits { Fits program.now.layout (C.values cells.old) }
         requires allowed { (address : ℕ) → IsTrue (C.may_get cells.old address) }
@@ -154,9 +153,7 @@ impl Process {
         cells: &mut C,
     ) -> Stepped
         requires storage { IsStorage program.now.layout }
-        requires target { IsTrue (ref_resolves program.now.layout self.old.unit target.now) }
-        requires value { IsTrue (resolves program.now.layout self.old.unit value.now) }
-        requires room { subscript_reads target.now + reads_in value.now ≤ self.old.room }
+                requires room { subscript_reads target.now + reads_in value.now ≤ self.old.room }
         requires fits { Fits program.now.layout (C.values cells.old) }
         requires allowed { (address : ℕ) → IsTrue (C.may_get cells.old address) }
         requires after { self.old.at + 1 < 2 ^ 64 }
@@ -190,8 +187,7 @@ impl Process {
         line: &mut Line,
     ) -> Stepped
         requires storage { IsStorage program.now.layout }
-        requires resolves { IsTrue (items_resolve program.now.layout self.old.unit items.now) }
-        requires room { items_reads items.now ≤ self.old.room }
+            requires room { items_reads items.now ≤ self.old.room }
         requires fits { Fits program.now.layout (C.values cells.old) }
         requires allowed { (address : ℕ) → IsTrue (C.may_get cells.old address) }
         requires items { text_of line.old ≡ [] }

@@ -39,6 +39,20 @@ is_spelled_as v _ = false
 abbrev pub is_v : Ref → Expr → Bool
 is_v v expr = is_spelled_as v (out-Expr expr)
 
+-- an operator and its two operands
+pub record Operation : Type 0 where
+  pub op : Op
+  pub left : Expr
+  pub right : Expr
+
+-- the operator that stands outermost in an expression, where it has two operands
+abbrev pub layer_operation : Expr-F Expr Part Ref → Option Operation
+layer_operation (layer.Binary op left right) = Some (record { op = op; left = left; right = right })
+layer_operation _ = None
+
+abbrev pub operation_of : Expr → Option Operation
+operation_of expr = layer_operation (out-Expr expr)
+
 -- how many operators with two operands stand one within the other at the left
 abbrev pub left_step : Expr-F ℕ (Unit {0}) (Unit {0}) → ℕ
 left_step (layer.Binary op left right) = suc left
@@ -73,34 +87,34 @@ held_last op left answers = and_then (left answers) (λ x rest. gives (λ v. joi
 module _ (layout : Layout) (unit : ℕ) (v : Ref) where
   module _ (in_chain : Op → Bool) where
     -- a chain whose left operand is v, or such a chain
-    abbrev pub chain_by : (Expr → Option Held) → Expr-F Expr Part Ref → Option Held
-    chain_by inner (layer.Binary op left right) =
-        if in_chain op
-        then (if is_v v left then Some (held_first op (demand_of layout unit right)) else option_map (held_next op (demand_of layout unit right)) (inner left))
+    abbrev pub chain_by : (Expr → Option Held) → Option Operation → Option Held
+    chain_by inner None = None
+    chain_by inner (Some o) =
+        if in_chain o.op
+        then (if is_v v o.left then Some (held_first o.op (demand_of layout unit o.right)) else option_map (held_next o.op (demand_of layout unit o.right)) (inner o.left))
         else None
-    chain_by inner _ = None
 
     -- a chain of so many operators at most, whose leftmost operand is v
     abbrev pub chain_within : ℕ → Expr → Option Held
     chain_within zero expr = None
-    chain_within (suc operators) expr = chain_by (chain_within operators) (out-Expr expr)
+    chain_within (suc operators) expr = chain_by (chain_within operators) (operation_of expr)
 
     -- a chain of one or more of these operators, whose leftmost operand is v
     abbrev pub chain_of : Expr → Option Held
     chain_of expr = chain_within (operators_at_left expr) expr
 
   -- `e + v` or `e * v`
-  abbrev pub last_by : Expr-F Expr Part Ref → Option Held
-  last_by (layer.Binary op left right) =
-      if is_commutative op
-      then (if is_v v right then Some (held_last op (demand_of layout unit left)) else None)
+  abbrev pub last_by : Option Operation → Option Held
+  last_by None = None
+  last_by (Some o) =
+      if is_commutative o.op
+      then (if is_v v o.right then Some (held_last o.op (demand_of layout unit o.left)) else None)
       else None
-  last_by _ = None
 
   -- the right side of an accumulation, with v held open: the first form that fits counts; none where the assignment is
   -- no accumulation. No function is referenced yet, so the rule that there is none but intrinsics needs no words here
   abbrev pub held_of : Expr → Option Held
-  held_of expr = option_or (chain_of stands_in_sum expr) (option_or (chain_of stands_in_product expr) (last_by (out-Expr expr)))
+  held_of expr = option_or (chain_of stands_in_sum expr) (option_or (chain_of stands_in_product expr) (last_by (operation_of expr)))
 
 -- a unit, and the value that it takes
 abbrev pub Written : Type 0

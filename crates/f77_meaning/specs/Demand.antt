@@ -15,7 +15,7 @@ use Rattle.f77_ast.specs.declared.program.Layout.{Layout}
 use Rattle.f77_ast.specs.declared.refusal.Fault.{Fault}
 use Rattle.f77_ast.specs.declared.refusal.Fault.TheVariants.{ZeroDivisor, Subscript}
 use Rattle.f77_ast.specs.Entity.{entity_in}
-use Rattle.f77_meaning.specs.Storage.{start_of, vector_extent}
+use Rattle.f77_meaning.specs.Storage.{is_scalar, start_of, vector_extent}
 
 -- what an evaluation comes to: a value and the answers that are left, the address of the unit that is read next, or a fault
 pub data Demand (A : Type 0) : Type 0 where
@@ -77,12 +77,16 @@ Evaluation = List ℤ → Demand ℤ
 abbrev pub Location : Type 0
 Location = List ℤ → Demand ℕ
 
+-- the address of a variable
+abbrev pub variable_of : Entity → List ℤ → Demand ℕ
+variable_of entity rest = if is_scalar entity.bounds then gives (start_of entity) rest else fails Subscript
+
 -- the unit of a variable, or of an element: the subscript is evaluated, and then checked; other references have no
--- meaning yet
+-- meaning yet, and no accepted program has one
 abbrev pub located : Option Entity → Option (List Evaluation) → Location
-located (Some entity) None answers = gives (start_of entity) answers
+located (Some entity) None answers = variable_of entity answers
 located (Some entity) (Some (subscript ∷ [])) answers = and_then (subscript answers) (λ s rest. element_of entity s rest)
-located _ _ answers = gives 0 answers
+located _ _ answers = fails Subscript
 
 -- one level: the left operand before the right one; a reference reads its subscript, and then its unit
 abbrev pub expr_step : Expr-F Evaluation (Unit {0}) Location → Evaluation
