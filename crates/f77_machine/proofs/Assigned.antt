@@ -1,8 +1,8 @@
 -- What an assignment writes.
-use Rattle.std.proofs.Common.{◌≡◌, ℕ, ℤ, pos, List, [], ◌∷◌, Option, None, Some, refl, sym, ap, ◌∙◌}
+use Rattle.std.proofs.Common.{◌≡◌, ℕ, ℤ, pos, List, Option, None, Some, refl}
 use Rattle.std.specs.Option.{option_map}
 use Rattle.f77_meaning.specs.Assign.{Held, Written, accumulated, written_by}
-use Rattle.f77_meaning.specs.Demand.{Demand, Evaluation, gives, wants, fails, and_then, taken}
+use Rattle.f77_meaning.specs.Demand.{Demand, Evaluation}
 use Rattle.f77_machine.specs.Chain.{held_at}
 
 -- an assignment of which a right side with v held open is known is an accumulation

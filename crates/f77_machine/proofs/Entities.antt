@@ -1,5 +1,5 @@
 -- Where the entities of a layout lie, and what references to them are.
-use Rattle.std.proofs.Common.{◌≡◌, ℕ, zero, suc, ◌≤◌, ℤ, Bool, true, false, cond, List, [], ◌∷◌, length, map, All, Option, None, Some, ap, subst, find, arith}
+use Rattle.std.proofs.Common.{◌≡◌, ℕ, suc, ◌≤◌, ℤ, Bool, true, false, cond, List, [], ◌∷◌, length, map, All, Option, Some, ap, subst, find, arith}
 use Rattle.std.specs.Option.{option_map}
 use Rattle.f77_ast.specs.Entity.{entity_in, is_called}
 use Rattle.f77_ast.specs.declared.program.Entity.{Entity}

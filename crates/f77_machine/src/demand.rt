@@ -19,12 +19,7 @@ use sqlite_items::Items;
 ///
 /// No operator but those on INTEGER has a meaning yet: they give 0.
 #[cycle(demand)]
-pub fn demand<'a>(
-    layout: &Layout,
-    unit: u32,
-    expr: &Expr,
-    answers: &'a [i64],
-) -> Answer<'a, i64>
+pub fn demand<'a>(layout: &Layout, unit: u32, expr: &Expr, answers: &'a [i64]) -> Answer<'a, i64>
     requires storage { IsStorage layout.now }
     ensures value { as_demand result ≡ demand_of layout.now unit expr.now answers.now }
     ensures asks { Asks (length layout.now.first) (reads_in expr.now) (length answers.now) result }

@@ -53,7 +53,9 @@ impl Process {
         ensures first { IfOk result (λ p. process_of p ≡ first_process program.now) }
         ensures is_of { IfOk result (λ p. IsProcessOf program.now p) }
     {
-        let room = room_for(program).ok_or(NoMemory)?;
+        let Some(room) = room_for(program) else {
+            return Err(NoMemory);
+        };
         let at = entry(program);
         Ok(Process {
             unit: 0,
@@ -153,7 +155,7 @@ impl Process {
         cells: &mut C,
     ) -> Stepped
         requires storage { IsStorage program.now.layout }
-                requires room { subscript_reads target.now + reads_in value.now ≤ self.old.room }
+        requires room { subscript_reads target.now + reads_in value.now ≤ self.old.room }
         requires fits { Fits program.now.layout (C.values cells.old) }
         requires allowed { (address : ℕ) → IsTrue (C.may_get cells.old address) }
         requires after { self.old.at + 1 < 2 ^ 64 }
@@ -163,7 +165,13 @@ impl Process {
         ensures same_test { C.may_get cells.new ≡ C.may_get cells.old }
         ensures place { KeepsPlace program.now self.old self.new }
     {
-        match assigned(&program.layout, self.unit, target, value, self.answers.as_slice()) {
+        match assigned(
+            &program.layout,
+            self.unit,
+            target,
+            value,
+            self.answers.as_slice(),
+        ) {
             Answer::Gives((address, value), _rest) => {
                 cells.put(address, value);
                 self.go_on(program);
@@ -187,7 +195,7 @@ impl Process {
         line: &mut Line,
     ) -> Stepped
         requires storage { IsStorage program.now.layout }
-            requires room { items_reads items.now ≤ self.old.room }
+        requires room { items_reads items.now ≤ self.old.room }
         requires fits { Fits program.now.layout (C.values cells.old) }
         requires allowed { (address : ℕ) → IsTrue (C.may_get cells.old address) }
         requires items { text_of line.old ≡ [] }
@@ -198,7 +206,13 @@ impl Process {
         ensures same_test { C.may_get cells.new ≡ C.may_get cells.old }
         ensures place { KeepsPlace program.now self.old self.new }
     {
-        match print_line(&program.layout, self.unit, items.as_slice(), line, self.answers.as_slice()) {
+        match print_line(
+            &program.layout,
+            self.unit,
+            items.as_slice(),
+            line,
+            self.answers.as_slice(),
+        ) {
             Answer::Gives((), _rest) => {
                 self.go_on(program);
                 Stepped::Printed
@@ -256,11 +270,12 @@ fn entry(program: &Program) -> usize
 fn first_executable(listing: &Listing) -> usize
     ensures { result ≡ first_executable listing.now }
 {
-    listing
-        .as_slice()
-        .iter()
-        .take_while(|listed| !is_executable(&listed.stmt))
-        .count()
+    for (place, listed) in listing.as_slice().iter().enumerate() {
+        if is_executable(&listed.stmt) {
+            return place;
+        }
+    }
+    listing.len()
 }
 
 /// Whether a statement is executable (ANSI X3.9-1978, section 7).

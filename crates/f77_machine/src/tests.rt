@@ -1,8 +1,11 @@
 //! Tests of what no clause says: that calls succeed with ample memory, and worked examples with values found by hand.
-ghost use Rattle.std.specs.Prelude.{◌≡◌, IfOk, length};
-ghost use Rattle.f77_meaning.specs.Sound.{IsSound};
+ghost use Rattle.std.specs.Prelude.{◌≡◌, IfOk, IsTrue, length};
+ghost use Rattle.f77_ast.specs.declared.program.Layout.{Layout};
+ghost use Rattle.f77_meaning.specs.Sound.{IsSound, items_resolve};
+ghost use Rattle.f77_meaning.specs.Storage.{IsStorage};
 
-use crate::demand::{Answer, demand};
+use crate::answer::Answer;
+use crate::demand::demand;
 use crate::input::Input;
 use crate::line::Line;
 use crate::process::Process;
@@ -73,7 +76,7 @@ fn numbers_are_read(rt: HostRuntime) -> Result<(), Fail> {
 
 #[test]
 fn operators(rt: HostRuntime) -> Result<(), Fail> {
-    let zero = Err(Fault::ZeroDivisor);
+    let zero = Err(Some(Fault::ZeroDivisor));
     let rows = [
         (Op::Add, i64::MAX, 1, Ok(i64::MIN)),
         (Op::Sub, 2, 5, Ok(-3)),
@@ -86,9 +89,10 @@ fn operators(rt: HostRuntime) -> Result<(), Fail> {
         (Op::Pow, -1, -3, Ok(-1)),
         (Op::Pow, 0, -1, zero),
     ];
+    let layout = a_layout(rt.alloc(), 0, 0)?;
     for (op, x, y, want) in rows {
         let tree = binary(rt.alloc(), op, Expr::Int(x), Expr::Int(y))?;
-        assert_eq!(rt; value_of(&tree), want, "{op:?} {x} {y}");
+        assert_eq!(rt; value_of(&layout, &tree), want, "{op:?} {x} {y}");
     }
     Ok(())
 }
@@ -100,7 +104,8 @@ fn trees_say_what_binds(rt: HostRuntime) -> Result<(), Fail> {
     let inner = Expr::Paren(Boxed::new(rt.alloc(), sum)?);
     let product = binary(rt.alloc(), Op::Mul, Expr::Int(2), inner)?;
     let tree = Expr::Unary(Op::Neg, Boxed::new(rt.alloc(), product)?);
-    assert_eq!(rt; value_of(&tree), Ok(-14));
+    let layout = a_layout(rt.alloc(), 0, 0)?;
+    assert_eq!(rt; value_of(&layout, &tree), Ok(-14));
     Ok(())
 }
 
@@ -153,7 +158,9 @@ fn lines_are_printed(rt: HostRuntime) -> Result<(), Fail> {
 }
 
 /// What the first step of a program that prints these items answers, and the line after it.
-fn first_step(alloc: Global, items: Items<Item>) -> Result<(Stepped, Bytes), Fail> {
+fn first_step(alloc: Global, items: Items<Item>) -> Result<(Stepped, Bytes), Fail>
+    requires { (layout : Layout) → IsTrue (items_resolve layout 0 items) }
+{
     let program = printing(alloc, items)?;
     let mut store = Store::new(alloc, &program.layout)?;
     let mut input = Input::new(Bytes::new(alloc));
@@ -163,8 +170,10 @@ fn first_step(alloc: Global, items: Items<Item>) -> Result<(Stepped, Bytes), Fai
     Ok((stepped, Bytes::from_slice(alloc, line.text())?))
 }
 
-/// Items of one number, so many.
-fn numbers(alloc: Global, number: i64, count: usize) -> Result<Items<Item>, NoMemory> {
+/// Items of one number, so many. They name nothing.
+fn numbers(alloc: Global, number: i64, count: usize) -> Result<Items<Item>, NoMemory>
+    ensures { IfOk result (λ items. (layout : Layout) → IsTrue (items_resolve layout 0 items)) }
+{
     let mut items = Items::new(alloc);
     for _ in 0..count {
         items.push(Item::Plain(Expr::Int(number)))?;
@@ -191,16 +200,20 @@ fn binary(alloc: Global, op: Op, left: Expr, right: Expr) -> Result<Expr, Fail> 
 }
 
 /// The value of a tree that reads nothing.
-fn value_of(tree: &Expr) -> Result<i64, Fault> {
-    match demand(tree, &[]) {
+fn value_of(layout: &Layout, tree: &Expr) -> Result<i64, Option<Fault>>
+    requires { IsStorage layout.now }
+{
+    match demand(layout, 0, tree, &[]) {
         Answer::Gives(value, _) => Ok(value),
-        Answer::Fails(fault) => Err(fault),
+        Answer::Wants(_) => Err(None),
+        Answer::Fails(fault) => Err(Some(fault)),
     }
 }
 
 /// Storage of two units.
 fn a_layout(alloc: Global, first: i64, second: i64) -> Result<Layout, NoMemory>
-    ensures { IfOk result (λ layout. length layout.first ≡ 2) }
+    ensures units { IfOk result (λ layout. length layout.first ≡ 2) }
+    ensures storage { IfOk result IsStorage }
 {
     let mut values = Nums::new(alloc);
     values.push(first)?;
@@ -229,6 +242,7 @@ fn listed(alloc: Global, line: u32, stmt: Stmt) -> Listed
 
 /// A program of one PRINT of these items, at line 2, and of END, at line 5.
 fn printing(alloc: Global, items: Items<Item>) -> Result<Program, NoMemory>
+    requires { (layout : Layout) → IsTrue (items_resolve layout 0 items) }
     ensures { IfOk result (λ program. IsSound program) }
 {
     let mut listing = Listing::new(alloc);

@@ -1,4 +1,4 @@
-use Rattle.std.proofs.Common.{◌≡◌, ◌∙◌, sym, ap}
+use Rattle.std.proofs.Common.{◌∙◌, ap}
 use Rattle.f77_meaning.specs.Assign.{held_of, written_by}
 use Rattle.f77_meaning.specs.Demand.{and_then, demand_of}
 use Rattle.f77_machine.specs.Answer.{as_demand}

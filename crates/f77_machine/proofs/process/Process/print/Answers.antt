@@ -11,8 +11,8 @@ pub returns-in-Wants-clause-next : goal.returns-in-Wants-clause-next
 returns-in-Wants-clause-next g c =
     let empty = c.clear.ensures ∙ sym c.requires.items in
     let asked = c.in-Wants.ensures.value
-        ∙ ap (λ items. line_of_items c.args.program.now.layout c.args.self.now.unit items c.as_slice-2.result.now) c.as_slice.ensures
-        ∙ ap (line_of_items c.args.program.now.layout c.args.self.now.unit c.args.items.now) c.as_slice-2.ensures.value in
+    ∙ ap (λ items. line_of_items c.args.program.now.layout c.args.self.now.unit items c.as_slice-2.result.now) c.as_slice.ensures
+    ∙ ap (line_of_items c.args.program.now.layout c.args.self.now.unit c.args.items.now) c.as_slice-2.ensures.value in
     c.read.ensures.next (text_of c.clear.new.self)
     ∙ ap (λ d. next_by (print_event d) (process_of c.args.self.now) (g.C.Cells.values c.args.cells.now) (g.C.Cells.reads c.args.cells.now) (text_of c.clear.new.self)) asked
     ∙ ap (next_by (print_event (line_of_items c.args.program.now.layout c.args.self.now.unit c.args.items.now c.args.self.now.answers.items)) (process_of c.args.self.now) (g.C.Cells.values c.args.cells.now) (g.C.Cells.reads c.args.cells.now)) empty
