@@ -1,0 +1,5 @@
+pub mod Breaks
+pub mod ColumnLemmas
+pub mod LineLemmas
+pub mod Order
+pub mod Scans

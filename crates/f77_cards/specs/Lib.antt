@@ -1,0 +1,6 @@
+pub mod Cards
+pub mod Columns
+pub mod Lines
+pub mod Reading
+pub mod Rules
+pub mod Text
