@@ -31,7 +31,7 @@ pub type Cards = List<Card>;
 /// 5. A statement's text ends inside a character constant.
 /// 6. A continuation line before any initial line.
 ///
-/// `NoMemory` may come at any file that has a statement. The time is linear in the number of bytes.
+/// `NoMemory` where no memory was to be had. The bytes are read once, from the first to the last.
 pub fn cards(alloc: Global, bytes: &[u8]) -> Result<Cards, FrontError>
     requires { length bytes.now < 2 ^ 32 }
     ensures accepted { IfOk result (λ cards. cards_of bytes.now ≡ Ok cards) }

@@ -11,4 +11,6 @@ mod line;
 mod lines;
 mod reader;
 mod rules;
+#[cfg(test)]
+mod tests;
 mod text;
