@@ -1,5 +1,6 @@
 pub mod Breaks
 pub mod ColumnLemmas
+pub mod Earliest
 pub mod LineLemmas
 pub mod Order
 pub mod Scans

@@ -116,11 +116,11 @@ more_sorted inside line t code a b =
 -- ---- lines in order
 
 -- the numbers of lines rise, from low to below high
-abbrev Rising : ℕ → ℕ → List Line → Type 0
+abbrev pub Rising : ℕ → ℕ → List Line → Type 0
 Rising low high [] = low ≤ high
 Rising low high (line ∷ lines) = (low ≤ line.number) × Rising (line.number + 1) high lines
 
-rising_le : (low high : ℕ) (lines : List Line) → Rising low high lines → low ≤ high
+pub rising_le : (low high : ℕ) (lines : List Line) → Rising low high lines → low ≤ high
 rising_le low high [] h = h
 rising_le low high (line ∷ lines) h =
     let k = rising_le (line.number + 1) high lines h.1 in omega (arith, h.0)
@@ -174,7 +174,7 @@ statement_sorted s low high h =
 -- ---- grouped lines in order
 
 -- the lines of statements rise
-abbrev InOrder : ℕ → ℕ → List Statement → Type 0
+abbrev pub InOrder : ℕ → ℕ → List Statement → Type 0
 InOrder low high [] = low ≤ high
 InOrder low high (s ∷ statements) = (mid : ℕ) × Rising low mid (s.initial ∷ s.continuations) × InOrder mid high statements
 
@@ -186,10 +186,10 @@ order_le low high (s ∷ statements) h =
     omega arith
 
 -- the lines of a file rise
-record GroupsRise (low high : ℕ) (g : Grouped) : Type 0 where
-  mid : ℕ
-  leading : Rising low mid g.leading
-  statements : InOrder mid high g.statements
+pub record GroupsRise (low high : ℕ) (g : Grouped) : Type 0 where
+  pub mid : ℕ
+  pub leading : Rising low mid g.leading
+  pub statements : InOrder mid high g.statements
 
 abbrev with_by : Bool → Line → Grouped → Grouped
 with_by first line g = if first then record { leading = []; statements = record { initial = line; continuations = g.leading } ∷ g.statements } else record { leading = line ∷ g.leading; statements = g.statements }
@@ -215,9 +215,11 @@ breaks_sorted g low high h =
     let b : h.mid ≤ high = order_le h.mid high g.statements h.statements in
     joins (8 * low) (8 * h.mid) (8 * high) (leading_breaks false g.leading) (flat_map statement_breaks g.statements) (omega arith) (omega arith) (leading_sorted g.leading false low h.mid h.leading) (statements_sorted g.statements h.mid high h.statements)
 
+pub file_rises : (bytes : List ℕ) → GroupsRise 1 (1 + length (lines_of bytes)) (grouped (statement_lines bytes))
+file_rises bytes =
+    groups_rise (statement_lines bytes) 1 (1 + length (lines_of bytes)) (numbers_rise (lines_of bytes) 1 (1 + length (lines_of bytes)) (omega arith))
+
 -- the first refusal of a file is what stands first of all that is broken
 pub first_is_head : (bytes : List ℕ) → first_of (breaks_of (grouped (statement_lines bytes))) ≡ head_of (breaks_of (grouped (statement_lines bytes)))
 first_is_head bytes =
-    let top : ℕ = 1 + length (lines_of bytes) in
-    let rise = groups_rise (statement_lines bytes) 1 top (numbers_rise (lines_of bytes) 1 top (omega arith)) in
-    (breaks_sorted (grouped (statement_lines bytes)) 1 top rise).first
+    (breaks_sorted (grouped (statement_lines bytes)) 1 (1 + length (lines_of bytes)) (file_rises bytes)).first

@@ -1,5 +1,6 @@
 pub mod Cards
 pub mod Columns
+pub mod Laws
 pub mod Lines
 pub mod Reading
 pub mod Rules

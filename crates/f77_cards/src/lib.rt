@@ -7,6 +7,7 @@
 
 pub mod cards;
 mod draft;
+pub mod laws;
 mod line;
 mod lines;
 mod reader;

@@ -1,0 +1,12 @@
+//! What the definitions of refusals and cards come to: functions with nothing to do.
+ghost use Rattle.f77_cards.specs.Laws.{FirstRefusalIsEarliest, LinesOfCardsRise};
+
+/// A law: the first of some refusals is one of them, and none of them is earlier.
+pub fn law_of_first_refusals()
+    ensures { FirstRefusalIsEarliest }
+{}
+
+/// A law: the lines of a file's cards rise.
+pub fn law_of_rising_lines()
+    ensures { LinesOfCardsRise }
+{}
