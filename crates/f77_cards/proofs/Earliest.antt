@@ -1,11 +1,11 @@
 -- The first of some refusals is the earliest, and the lines of cards rise.
-use Rattle.std.proofs.Common.{◌≡◌, ℕ, suc, ◌+◌, ◌<◌, ◌≤◌, Bool, true, false, ◌==◌, List, [], ◌∷◌, map, length, Option, None, Some, Result, Ok, Err, if◌then◌else◌, refl, sym, subst, ap, ◌∙◌, arith, get_or}
-use Rattle.std.specs.Prelude.{All, Contains, MatchOption}
+use Rattle.std.proofs.Common.{◌≡◌, ℕ, suc, ◌+◌, ◌≤◌, Bool, true, false, List, [], ◌∷◌, map, length, Option, None, Some, Ok, if◌then◌else◌, refl, subst, arith, get_or}
+use Rattle.std.specs.Prelude.{Contains, MatchOption}
 use Rattle.std.proofs.lemmas.Bool.Decides.{nat_tests}
 use Rattle.std.proofs.lemmas.List.Elements.{All-cons}
 use Rattle.f77_ast.specs.declared.program.Card.{Card}
 use Rattle.f77_ast.specs.declared.refusal.Refusal.{Refusal}
-use Rattle.f77_cards.specs.Cards.{Statement, Grouped, grouped, statement_lines, card_of, breaks_of, is_earlier, earlier_of, first_of, unless_refused, cards_of}
+use Rattle.f77_cards.specs.Cards.{Statement, Grouped, grouped, statement_lines, card_of, breaks_of, is_earlier, earlier_of, first_of, unless_refused}
 use Rattle.f77_cards.specs.Laws.{NoneIsEarlier, FirstRefusalIsEarliest, Rise, LinesOfCardsRise}
 use Rattle.f77_cards.specs.Lines.{lines_of}
 use Rattle.f77_cards.proofs.Order.{InOrder, GroupsRise, file_rises, rising_le}

@@ -11,6 +11,7 @@ use Rattle.f77_cards.specs.Rules.{has_tab, has_bad_character, has_bad_label}
 use Rattle.f77_cards.specs.Text.{ends_inside}
 use Rattle.f77_cards.specs.Cards.{Statement, Grouped, grouped, statement_lines, at, when, line_breaks, continuation_breaks, is_open, statement_breaks, leading_breaks, breaks_of, is_earlier, earlier_of, first_of}
 use Rattle.f77_cards.proofs.Breaks.{head_of}
+use Rattle.f77_cards.proofs.Grouping.{with_by}
 
 -- ---- refusals in order
 
@@ -190,9 +191,6 @@ pub record GroupsRise (low high : ℕ) (g : Grouped) : Type 0 where
   pub mid : ℕ
   pub leading : Rising low mid g.leading
   pub statements : InOrder mid high g.statements
-
-abbrev with_by : Bool → Line → Grouped → Grouped
-with_by first line g = if first then record { leading = []; statements = record { initial = line; continuations = g.leading } ∷ g.statements } else record { leading = line ∷ g.leading; statements = g.statements }
 
 groups_rise : (lines : List Line) (low high : ℕ) → Rising low high lines → GroupsRise low high (grouped lines)
 groups_rise [] low high h = record { mid = low; leading = omega arith; statements = h }

@@ -13,6 +13,7 @@ use Rattle.f77_cards.specs.Cards.{Statement, Grouped, grouped, statement_lines, 
 use Rattle.f77_cards.specs.Reading.{and_then, begun, continued, ended, ended_by, with_ended, begin_by, begin_after, first_code, leading_code, continue_by, step}
 use Rattle.f77_cards.proofs.Breaks.{head_of, all_continued, statement_result, begin_result, statement_is, head_append, leading_head}
 use Rattle.f77_cards.proofs.Order.{first_is_head}
+use Rattle.f77_cards.proofs.Grouping.{with_by}
 
 -- what lines make of what was read
 abbrev pub scan : Reader → List Line → Result (List Card) Refusal
@@ -53,9 +54,6 @@ after cards (s ∷ statements) = and_then (statement_result s) (λ card. after (
 abbrev leading_result : List Line → Result (List Card) Refusal → Result (List Card) Refusal
 leading_result [] rest = rest
 leading_result (line ∷ lines) rest = Err (at line (leading_code (first_code false line)))
-
-abbrev with_by : Bool → Line → Grouped → Grouped
-with_by first line g = if first then record { leading = []; statements = record { initial = line; continuations = g.leading } ∷ g.statements } else record { leading = line ∷ g.leading; statements = g.statements }
 
 -- what lines make of a statement that is being read
 abbrev Goes : List Line → Type 0

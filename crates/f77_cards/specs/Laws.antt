@@ -1,5 +1,5 @@
 -- What the definitions of refusals and cards come to.
-use Rattle.std.specs.Prelude.{◌≡◌, ℕ, ◌+◌, ◌≤◌, false, List, [], ◌∷◌, Ok, All, Contains, MatchOption}
+use Rattle.std.specs.Prelude.{◌≡◌, ℕ, ◌+◌, ◌≤◌, false, List, [], ◌∷◌, Ok, All, Contains, IfSome, MatchOption}
 use Rattle.f77_ast.specs.declared.program.Card.{Card}
 use Rattle.f77_ast.specs.declared.refusal.Refusal.{Refusal}
 use Rattle.f77_cards.specs.Cards.{is_earlier, first_of, cards_of}
@@ -20,3 +20,7 @@ Rise n (card ∷ cards) = (n ≤ card.line) × Rise (card.line + 1) cards
 -- the lines of a file's cards rise, from line 1 on
 abbrev pub LinesOfCardsRise : Type 0
 LinesOfCardsRise = (bytes : List ℕ) (cards : List Card) → cards_of bytes ≡ Ok cards → Rise 1 cards
+
+-- the labels of a file's cards are from 1 to 99,999
+abbrev pub LabelsAreInRange : Type 0
+LabelsAreInRange = (bytes : List ℕ) (cards : List Card) → cards_of bytes ≡ Ok cards → All (λ card. IfSome card.label (λ label. (1 ≤ label) × (label ≤ 99999))) cards
