@@ -6,7 +6,7 @@ use Rattle.f77_ast.specs.declared.refusal.Refusal.{Refusal}
 use Rattle.f77_cards.specs.declared.line.Line.{Line}
 use Rattle.f77_cards.specs.Columns.{numbered, is_comment, is_initial, text_field, label_of}
 use Rattle.f77_cards.specs.Lines.{lines_of}
-use Rattle.f77_cards.specs.Rules.{has_tab, has_bad_character, has_bad_label}
+use Rattle.f77_cards.specs.Rules.{has_tab, has_bad_character, has_bad_label, is_one_too_many}
 use Rattle.f77_cards.specs.Text.{text_from, ends_inside}
 
 -- ---- statements
@@ -57,10 +57,10 @@ when false refusal = []
 abbrev pub line_breaks : Bool → Line → List Refusal
 line_breaks inside line = when (has_tab line) (at line 1) ++ when (has_bad_character inside (text_field line)) (at line 2) ++ when (has_bad_label line) (at line 3)
 
--- codes 1 to 4 of continuation lines, of which the first is the k-th of its statement; code 4: it is the 20th
+-- codes 1 to 4 of continuation lines, of which the first is the k-th of its statement
 abbrev pub continuation_breaks : ℕ → Bool → List Line → List Refusal
 continuation_breaks k inside [] = []
-continuation_breaks k inside (line ∷ lines) = line_breaks inside line ++ when (k == 20) (at line 4) ++ continuation_breaks (k + 1) (ends_inside inside (text_field line)) lines
+continuation_breaks k inside (line ∷ lines) = line_breaks inside line ++ when (is_one_too_many k) (at line 4) ++ continuation_breaks (k + 1) (ends_inside inside (text_field line)) lines
 
 -- code 5: a statement's text ends inside a character constant
 abbrev pub is_open : Statement → Bool

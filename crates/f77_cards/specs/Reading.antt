@@ -9,7 +9,7 @@ use Rattle.f77_cards.specs.declared.line.Line.{Line}
 use Rattle.f77_cards.specs.declared.reader.Reader.{Reader}
 use Rattle.f77_cards.specs.Columns.{is_comment, is_initial, text_field, label_of}
 use Rattle.f77_cards.specs.Cards.{at}
-use Rattle.f77_cards.specs.Rules.{has_tab, has_bad_character, has_bad_label}
+use Rattle.f77_cards.specs.Rules.{has_tab, has_bad_character, has_bad_label, is_one_too_many}
 use Rattle.f77_cards.specs.Text.{text_from, ends_inside}
 
 -- goes on with what was read
@@ -28,7 +28,7 @@ first_code inside line = if has_tab line then Some 1 else (if has_bad_character 
 
 -- the first of the codes 1 to 4 of the k-th continuation line of a statement
 abbrev pub continuation_code : ℕ → Bool → Line → Option ℕ
-continuation_code k inside line = option_or (first_code inside line) (if k == 20 then Some 4 else None)
+continuation_code k inside line = option_or (first_code inside line) (if is_one_too_many k then Some 4 else None)
 
 -- how many lines there are after one more
 abbrev pub one_more : ℕ → ℕ

@@ -1,4 +1,5 @@
--- The rules on single lines that are no comments, each with the code of its refusal.
+-- The rules on single lines that are no comments, each with the code of its refusal. The rules on statements, codes 5 and 6,
+-- stand with the cards.
 use Rattle.std.specs.Prelude.{ℕ, Bool, false, not, ◌&&◌, ◌||◌, ◌==◌, nat_lt, List, [], ◌∷◌, codes, if◌then◌else◌}
 use Rattle.std.specs.Char.{is_ascii_digit, is_ascii_alphabetic}
 use Rattle.std.specs.List.{list_all, list_any}
@@ -42,3 +43,7 @@ is_bad_label field = not (list_all is_digit_or_blank field) || (list_any is_asci
 -- code 3: a bad label on an initial line, or columns 1 to 5 of a continuation line that aren't blank
 abbrev pub has_bad_label : Line → Bool
 has_bad_label line = if is_initial line then is_bad_label (label_field line) else not (list_all is_blank (label_field line))
+
+-- code 4: the k-th continuation line of a statement is the 20th, where 19 are allowed (ANSI X3.9-1978, section 3.3)
+abbrev pub is_one_too_many : ℕ → Bool
+is_one_too_many k = k == 20

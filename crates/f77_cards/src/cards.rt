@@ -45,7 +45,7 @@ pub fn cards(alloc: Global, bytes: &[u8]) -> Result<Cards, FrontError>
             number: number as u32,
             columns: filled(line),
         };
-        reader.take(alloc, &line)?;
+        reader.read_line(alloc, &line)?;
         left = rest;
         number += 1;
     }

@@ -38,7 +38,7 @@ impl Reader {
     /// Refused with the first of these that fits, and its line: where an initial line ends a statement, what
     /// `Draft::end` says of that; the codes 1 to 3 of an initial line; the codes 1 to 3 and 6 of a continuation line
     /// before any initial line.
-    pub fn take(&mut self, alloc: Global, line: &Line) -> Result<(), FrontError>
+    pub fn read_line(&mut self, alloc: Global, line: &Line) -> Result<(), FrontError>
         ensures read { OnOk result (step self.old line.now ≡ Ok self.new) }
         ensures refused { (refusal : Refusal) → IsErrOf result (FrontError.Refused refusal) → step self.old line.now ≡ Err refusal }
     {

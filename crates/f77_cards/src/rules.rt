@@ -51,7 +51,7 @@ fn may_stand_outside(byte: u8) -> bool
 fn may_stand_inside(byte: u8) -> bool
     ensures { result ≡ may_stand_inside byte }
 {
-    !(byte < 32 || byte == 127)
+    byte >= 32 && byte != 127
 }
 
 /// Whether a byte may stand at a place.
