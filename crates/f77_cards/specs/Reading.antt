@@ -1,8 +1,10 @@
 -- How cards are read line by line: a definition for each function of the code. What they make of a file is what `cards_of`
 -- says.
-use Rattle.std.specs.Prelude.{ℕ, ◌+◌, ◌^◌, ◌-◌, min, Bool, false, ◌==◌, List, [], ◌∷◌, ◌++◌, Option, Some, None, Result, Ok, Err, if◌then◌else◌}
+use Rattle.std.specs.Prelude.{◌≡◌, ℕ, ◌+◌, ◌^◌, ◌-◌, min, Bool, false, List, [], ◌∷◌, ◌++◌, Option, Some, None, Result, Ok, Err, IsErrOf, if◌then◌else◌}
 use Rattle.std.specs.Option.{option_or}
 use Rattle.f77_ast.specs.declared.program.Card.{Card}
+use Rattle.f77_ast.specs.declared.refusal.FrontError.{FrontError}
+use Rattle.f77_ast.specs.declared.refusal.FrontError.TheVariants as error
 use Rattle.f77_ast.specs.declared.refusal.Refusal.{Refusal}
 use Rattle.f77_cards.specs.declared.draft.Draft.{Draft}
 use Rattle.f77_cards.specs.declared.line.Line.{Line}
@@ -87,3 +89,7 @@ begin_after r line = and_then (with_ended r.cards r.draft) (λ cards. begin_by (
 -- what a line makes of what was read
 abbrev pub step : Reader → Line → Result Reader Refusal
 step r line = if is_comment line then Ok r else (if is_initial line then begin_after r line else continue_by r.cards r.draft line)
+
+-- where a call is refused, so is what it stands for, likewise
+abbrev pub RefusedAs : {A B : Type 0} → Result A FrontError → Result B Refusal → Type 0
+RefusedAs result meant = (refusal : Refusal) → IsErrOf result (error.Refused refusal) → meant ≡ Err refusal

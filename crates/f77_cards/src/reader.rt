@@ -1,5 +1,5 @@
 //! What was read of a file: its cards so far, and the statement whose lines are being read.
-ghost use Rattle.std.specs.Prelude.{◌≡◌, false, OnOk, IfOk, Ok, Err, IsErrOf};
+ghost use Rattle.std.specs.Prelude.{◌≡◌, false, OnOk, IfOk, Ok};
 
 use crate::draft::Draft;
 use crate::line::Line;
@@ -20,8 +20,7 @@ pub struct Reader {
 
 impl Reader {
     ghost use Rattle.std.specs.Prelude.{[], None};
-    ghost use Rattle.f77_ast.specs.declared.refusal.Refusal.{Refusal};
-    ghost use Rattle.f77_cards.specs.Reading.{with_ended, begin_by, first_code, begin_after, continue_by, step};
+    ghost use Rattle.f77_cards.specs.Reading.{with_ended, begin_by, first_code, begin_after, continue_by, step, RefusedAs};
 
     /// Before the first line. It takes no memory.
     pub fn new(alloc: Global) -> Reader
@@ -40,7 +39,7 @@ impl Reader {
     /// before any initial line.
     pub fn read_line(&mut self, alloc: Global, line: &Line) -> Result<(), FrontError>
         ensures read { OnOk result (step self.old line.now ≡ Ok self.new) }
-        ensures refused { (refusal : Refusal) → IsErrOf result (FrontError.Refused refusal) → step self.old line.now ≡ Err refusal }
+        ensures refused { RefusedAs result (step self.old line.now) }
     {
         if line.is_comment() {
             Ok(())
@@ -54,7 +53,7 @@ impl Reader {
     /// Ends the statement that is being read, and begins that of an initial line.
     fn begin_after(&mut self, alloc: Global, line: &Line) -> Result<(), FrontError>
         ensures read { OnOk result (begin_after self.old line.now ≡ Ok self.new) }
-        ensures refused { (refusal : Refusal) → IsErrOf result (FrontError.Refused refusal) → begin_after self.old line.now ≡ Err refusal }
+        ensures refused { RefusedAs result (begin_after self.old line.now) }
     {
         self.end()?;
         self.begin(alloc, line)
@@ -63,7 +62,7 @@ impl Reader {
     /// Ends the statement that is being read, if any.
     fn end(&mut self) -> Result<(), FrontError>
         ensures read { OnOk result (with_ended self.old.cards self.old.draft ≡ Ok self.new.cards) }
-        ensures refused { (refusal : Refusal) → IsErrOf result (FrontError.Refused refusal) → with_ended self.old.cards self.old.draft ≡ Err refusal }
+        ensures refused { RefusedAs result (with_ended self.old.cards self.old.draft) }
     {
         match self.draft.take() {
             None => Ok(()),
@@ -80,7 +79,7 @@ impl Reader {
     /// Begins the statement of an initial line.
     fn begin(&mut self, alloc: Global, line: &Line) -> Result<(), FrontError>
         ensures read { OnOk result (begin_by (first_code false line.now) self.old.cards line.now ≡ Ok self.new) }
-        ensures refused { (refusal : Refusal) → IsErrOf result (FrontError.Refused refusal) → begin_by (first_code false line.now) self.old.cards line.now ≡ Err refusal }
+        ensures refused { RefusedAs result (begin_by (first_code false line.now) self.old.cards line.now) }
     {
         match first_code(false, line) {
             Some(code) => Err(refused(line, code)),
@@ -94,7 +93,7 @@ impl Reader {
     /// Reads a continuation line.
     fn go_on(&mut self, line: &Line) -> Result<(), FrontError>
         ensures read { OnOk result (continue_by self.old.cards self.old.draft line.now ≡ Ok self.new) }
-        ensures refused { (refusal : Refusal) → IsErrOf result (FrontError.Refused refusal) → continue_by self.old.cards self.old.draft line.now ≡ Err refusal }
+        ensures refused { RefusedAs result (continue_by self.old.cards self.old.draft line.now) }
     {
         match &mut self.draft {
             None => Err(refused(line, leading_code(line))),
@@ -108,7 +107,7 @@ impl Reader {
     /// The cards of the file, after its last line.
     pub fn finish(mut self) -> Result<List<Card>, FrontError>
         ensures read { IfOk result (λ cards. with_ended self.cards self.draft ≡ Ok cards) }
-        ensures refused { (refusal : Refusal) → IsErrOf result (FrontError.Refused refusal) → with_ended self.cards self.draft ≡ Err refusal }
+        ensures refused { RefusedAs result (with_ended self.cards self.draft) }
     {
         self.end()?;
         Ok(self.cards)
