@@ -1,5 +1,5 @@
 -- What is broken in a file stands in order, so the first refusal stands first.
-use Rattle.std.proofs.Common.{◌≡◌, ℕ, ◌+◌, ◌*◌, ◌<◌, ◌≤◌, Bool, true, false, not, ◌==◌, List, [], ◌∷◌, ◌++◌, length, filter, Option, None, Some, if◌then◌else◌, refl, ap, ◌∙◌, arith}
+use Rattle.std.proofs.Common.{◌≡◌, ℕ, ◌+◌, ◌*◌, ◌<◌, ◌≤◌, Bool, true, false, not, ◌==◌, List, [], ◌∷◌, ◌++◌, length, filter, Option, None, Some, if◌then◌else◌, refl, sym, ap, ◌∙◌, arith}
 use Rattle.std.specs.List.{flat_map}
 use Rattle.std.specs.Option.{option_or}
 use Rattle.std.proofs.lemmas.Bool.Decides.{nat_tests}
@@ -10,7 +10,7 @@ use Rattle.f77_cards.specs.Lines.{lines_of}
 use Rattle.f77_cards.specs.Rules.{has_tab, has_bad_character, has_bad_label}
 use Rattle.f77_cards.specs.Text.{ends_inside}
 use Rattle.f77_cards.specs.Cards.{Statement, Grouped, grouped, statement_lines, at, when, line_breaks, continuation_breaks, is_open, statement_breaks, leading_breaks, breaks_of, is_earlier, earlier_of, first_of}
-use Rattle.f77_cards.proofs.Breaks.{head_of}
+use Rattle.f77_cards.proofs.Breaks.{head_of, head_append}
 use Rattle.f77_cards.proofs.Grouping.{with_by}
 
 -- ---- refusals in order
@@ -71,15 +71,11 @@ within_append : (low high : ℕ) (xs ys : List Refusal) → Within low high xs �
 within_append low high [] ys h k = k
 within_append low high (x ∷ xs) ys h k = (h.0, h.1, h.2, within_append low high xs ys h.3 k)
 
-head_joins : (xs ys : List Refusal) → option_or (head_of xs) (head_of ys) ≡ head_of (xs ++ ys)
-head_joins [] ys = refl
-head_joins (x ∷ xs) ys = refl
-
 -- refusals in order, and others after them
 joins : (low mid high : ℕ) (xs ys : List Refusal) → low ≤ mid → mid ≤ high → Sorted low mid xs → Sorted mid high ys → Sorted low high (xs ++ ys)
 joins low mid high xs ys a b h k = record {
   within = within_append low high xs ys (within_wide low mid low high xs (omega arith) b h.within) (within_wide mid high low high ys a (omega arith) k.within);
-  first = first_append low mid high xs ys h.within k.within ∙ ap (λ o. option_or o (first_of ys)) h.first ∙ ap (option_or (head_of xs)) k.first ∙ head_joins xs ys;
+  first = first_append low mid high xs ys h.within k.within ∙ ap (λ o. option_or o (first_of ys)) h.first ∙ ap (option_or (head_of xs)) k.first ∙ sym (head_append xs ys);
 }
 
 wider : (low high l m : ℕ) (rs : List Refusal) → l ≤ low → high ≤ m → Sorted low high rs → Sorted l m rs
