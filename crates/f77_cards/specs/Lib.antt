@@ -1,0 +1,7 @@
+pub mod Cards
+pub mod Columns
+pub mod Laws
+pub mod Lines
+pub mod Reading
+pub mod Rules
+pub mod Text
