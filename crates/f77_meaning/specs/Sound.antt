@@ -49,7 +49,7 @@ abbrev pub resolves_part : Part-F Bool (Unit {0}) Bool → Unit {0}
 resolves_part part = tt
 
 abbrev pub resolves_ref : Layout → (unit : ℕ) → Ref-F Bool (Unit {0}) Bool → Bool
-resolves_ref layout unit ref = resolves_to (entity_in layout.entities unit ref.name) ref.args && is_whole ref.part
+resolves_ref layout unit ref = is_whole ref.part && resolves_to (entity_in layout.entities unit ref.name) ref.args
 
 module _ (layout : Layout) (unit : ℕ) where
   abbrev pub resolves : Expr → Bool

@@ -5,5 +5,4 @@ pub mod PrepareLemmas
 pub mod ReadLemmas
 pub mod RunLemmas
 pub mod ShowLemmas
-pub mod SoundLemmas
 pub mod TopLemmas

@@ -3,19 +3,21 @@ use Rattle.std.proofs.Common.{◌≡◌, ◌≢◌, ℕ, ◌+◌, ◌≤◌, ℤ
 use Rattle.std.proofs.lemmas.Bool.{leb-true}
 use Rattle.std.specs.Prelude.{nat_le}
 use Rattle.hyb_base.specs.Decimal.{decimal_of}
+use Rattle.f77_ast.specs.declared.program.Layout.{Layout}
 use Rattle.f77_ast.specs.declared.program.Listed.{Listed}
 use Rattle.f77_ast.specs.declared.program.Program.{Program}
 use Rattle.f77_ast.specs.declared.refusal.Fault.TheVariants.{LineLimit}
 use Rattle.f77_ast.specs.declared.step.Stepped.{Stepped}
 use Rattle.f77_ast.specs.declared.step.Stepped.TheVariants.{Printed}
 use Rattle.f77_ast.specs.declared.stmt.Item.{Item, Plain}
-use Rattle.f77_ast.specs.declared.stmt.Stmt.{Stmt, Print, End}
+use Rattle.f77_ast.specs.declared.stmt.Stmt.{Stmt, Assign, Print, End}
+use Rattle.f77_meaning.specs.Assign.{Written, written_of}
 use Rattle.f77_meaning.specs.Demand.{Demand, gives, wants, fails, and_then, demand_of}
 use Rattle.f77_meaning.specs.Event.{Event, reads, writes, moves, prints, ends, faults}
 use Rattle.f77_meaning.specs.Next.{Next, next, next_of, stepped_of, line_after}
 use Rattle.f77_meaning.specs.Print.{line_limit, with_item, item_of, items_of, line_of_items}
 use Rattle.f77_meaning.specs.Process.{Process, listed_at}
-use Rattle.f77_meaning.specs.Step.{event, event_at, statement_event, print_event}
+use Rattle.f77_meaning.specs.Step.{event, event_at, statement_event, print_event, write_event}
 
 -- a line that was made is no longer than a line may be
 abbrev IsShort : Demand (List ℕ) → Type 0
@@ -29,26 +31,26 @@ with_item_short line text rest = by (nat_le (length line + (1 + length text)) li
   by true e = let h : length line + (1 + length text) ≤ line_limit = leb-true (length line + (1 + length text)) line_limit e in omega (arith, length-append line (32 ∷ text))
   by false e = tt
 
-item_short : (item : Item) (line : List ℕ) (answers : List ℤ) → length line ≤ line_limit → IsShort (item_of item line answers)
-item_short (Plain expr) line answers h = by (demand_of expr answers) where
+item_short : (layout : Layout) (unit : ℕ) (item : Item) (line : List ℕ) (answers : List ℤ) → length line ≤ line_limit → IsShort (item_of layout unit item line answers)
+item_short layout unit (Plain expr) line answers h = by (demand_of layout unit expr answers) where
   by : (d : Demand ℤ) → IsShort (and_then d (λ value rest. with_item line (decimal_of value) rest))
   by (gives value rest) = with_item_short line (decimal_of value) rest
   by (wants address) = tt
   by (fails fault) = tt
-item_short _ line answers h = h
+item_short layout unit _ line answers h = h
 
-then_short : (items : List Item) (d : Demand (List ℕ)) → ((more : List ℕ) (rest : List ℤ) → length more ≤ line_limit → IsShort (items_of items more rest)) → IsShort d → IsShort (and_then d (λ more rest. items_of items more rest))
-then_short items (gives more rest) go s = go more rest s
-then_short items (wants address) go s = tt
-then_short items (fails fault) go s = tt
+then_short : (layout : Layout) (unit : ℕ) (items : List Item) (d : Demand (List ℕ)) → ((more : List ℕ) (rest : List ℤ) → length more ≤ line_limit → IsShort (items_of layout unit items more rest)) → IsShort d → IsShort (and_then d (λ more rest. items_of layout unit items more rest))
+then_short layout unit items (gives more rest) go s = go more rest s
+then_short layout unit items (wants address) go s = tt
+then_short layout unit items (fails fault) go s = tt
 
-items_short : (items : List Item) (line : List ℕ) (answers : List ℤ) → length line ≤ line_limit → IsShort (items_of items line answers)
-items_short [] line answers h = h
-items_short (item ∷ items) line answers h = then_short items (item_of item line answers) (λ more rest s. items_short items more rest s) (item_short item line answers h)
+items_short : (layout : Layout) (unit : ℕ) (items : List Item) (line : List ℕ) (answers : List ℤ) → length line ≤ line_limit → IsShort (items_of layout unit items line answers)
+items_short layout unit [] line answers h = h
+items_short layout unit (item ∷ items) line answers h = then_short layout unit items (item_of layout unit item line answers) (λ more rest s. items_short layout unit items more rest s) (item_short layout unit item line answers h)
 
-line_short : (items : List Item) (answers : List ℤ) → IsShort (line_of_items items answers)
-line_short [] answers = omega arith
-line_short (item ∷ items) answers = items_short (item ∷ items) [] answers (omega arith)
+line_short : (layout : Layout) (unit : ℕ) (items : List Item) (answers : List ℤ) → IsShort (line_of_items layout unit items answers)
+line_short layout unit [] answers = omega arith
+line_short layout unit (item ∷ items) answers = items_short layout unit (item ∷ items) [] answers (omega arith)
 
 -- a printed line is no longer than a line may be
 abbrev PrintsShort : Event → Type 0
@@ -60,14 +62,20 @@ print_short (gives line rest) h = h
 print_short (wants address) h = tt
 print_short (fails fault) h = tt
 
-statement_short : (s : Stmt) (answers : List ℤ) → PrintsShort (statement_event s answers)
-statement_short (Print items) answers = print_short (line_of_items items answers) (line_short items answers)
-statement_short End answers = tt
-statement_short _ answers = tt
+write_short : (d : Demand Written) → PrintsShort (write_event d)
+write_short (gives written rest) = tt
+write_short (wants address) = tt
+write_short (fails fault) = tt
 
-event_short : (found : Option Listed) (answers : List ℤ) → PrintsShort (event_at found answers)
-event_short None answers = tt
-event_short (Some listed) answers = statement_short listed.stmt answers
+statement_short : (layout : Layout) (unit : ℕ) (s : Stmt) (answers : List ℤ) → PrintsShort (statement_event layout unit s answers)
+statement_short layout unit (Assign target value) answers = write_short (written_of layout unit target value answers)
+statement_short layout unit (Print items) answers = print_short (line_of_items layout unit items answers) (line_short layout unit items answers)
+statement_short layout unit End answers = tt
+statement_short layout unit _ answers = tt
+
+event_short : (layout : Layout) (unit : ℕ) (found : Option Listed) (answers : List ℤ) → PrintsShort (event_at layout unit found answers)
+event_short layout unit None answers = tt
+event_short layout unit (Some listed) answers = statement_short layout unit listed.stmt answers
 
 short_after : (did : Event) (line : List ℕ) → PrintsShort did → Printed ≡ stepped_of did → length (line_after did line) ≤ line_limit
 short_after (prints text) line h e = h
@@ -82,7 +90,7 @@ pub printed_short : (program : Program) (p q : Process) (old new : List ℤ) (co
 printed_short program p q old new count counted text line e =
     let stepped : Printed ≡ stepped_of (event program p) = ap (λ (n : Next). n.stepped) e in
     let line_is : line ≡ line_after (event program p) text = ap (λ (n : Next). n.line) e in
-    subst (λ l. length l ≤ line_limit) (sym line_is) (short_after (event program p) text (event_short (listed_at program p) p.answers) stepped)
+    subst (λ l. length l ≤ line_limit) (sym line_is) (short_after (event program p) text (event_short program.layout p.unit (listed_at program p) p.answers) stepped)
 
 same_after : (did : Event) (line : List ℕ) → stepped_of did ≢ Printed → line_after did line ≡ line
 same_after (prints text) line n = absurd (n refl)

@@ -4,6 +4,8 @@
 pub mod command;
 pub mod machine;
 pub mod prepare;
+#[cfg(test)]
+mod program_tests;
 pub mod read_file;
 pub mod run;
 pub mod status;

@@ -42,6 +42,7 @@ fn read<F: Files>(alloc: Global, name: &[u8], file: u8, files: &mut F) -> Result
 fn accept(alloc: Global, bytes: &[u8]) -> Result<Program, Status>
     requires { length bytes.now ≤ file_limit }
     ensures accepted { IfOk result (λ program. front_of bytes.now ≡ Ok program) }
+    ensures sound { IfOk result IsSound }
     ensures stops { IfErr result (FrontStops bytes.now) }
 {
     match front(alloc, bytes) {

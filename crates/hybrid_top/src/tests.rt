@@ -176,7 +176,7 @@ fn refusals(rt: HostRuntime) -> Result<(), Fail> {
         (b"      ENDE\n", 1, 21, b"REFUSED 1 21\n"),
         (b"      PRINT *\n      END\n", 1, 21, b"REFUSED 1 21\n"),
         (
-            b"      PRINT *, 1\n      I = 1\n      END\n",
+            b"      PRINT *, 1\n      GO TO 10\n      END\n",
             2,
             21,
             b"REFUSED 2 21\n",

@@ -2,7 +2,6 @@ use Rattle.std.proofs.Common.{ap, ◌∙◌}
 use Rattle.std.proofs.lemmas.Result.{err_from_is_err_and}
 use Rattle.hyb_base.specs.Count.{next_count}
 use Rattle.hybrid_top.proofs.PrepareLemmas.{start_stops, program_stops, front_stops, input_stops, schedule_stops}
-use Rattle.hybrid_top.proofs.SoundLemmas.{accepted_sound}
 use Rattle.hybrid_top.proofs.ReadLemmas.{keeps_then}
 use Rattle.hybrid_top.proofs.prepare.prepare.Goals as goal
 
@@ -28,9 +27,6 @@ returns-in_err-_schedule-clause-stops g c =
     let input = rw c.read.ensures.keeps.content at c.in_ok-input.ensures.whole in
     rw (p.1, p.2)
     (schedule_stops _ _ _ _ _ c.as_slice.result.now c.in_ok-program.program c.in_ok-input.input (keeps_then _ _ _ c.read.ensures.keeps c.read-2.ensures.keeps) c.read-3.ensures.keeps (c.in_ok-input.ensures.end ∙ ap next_count c.in_ok-bytes.ensures.end) (rw c.as_slice.ensures c.in_ok-bytes.ensures.whole) c.in_ok-program.ensures.accepted input c.in_err-_schedule.ensures.stops)
-
-pub start-requires : goal.start-requires
-start-requires g c = accepted_sound c.as_slice.result.now _ c.in_ok-program.ensures.accepted
 
 pub returns-clause-stops : goal.returns-clause-stops
 returns-clause-stops g c = start_stops _ _ _ c.start.result c.start.ensures.stops

@@ -46,6 +46,26 @@ loop-left-preserved-in-Read g c = record {
       (came_on c.args.machine.program c.loop-left.process c.step.new.self c.loop-left.store c.step.new.cells c.loop-left.line c.step.new.line _ c.loop-left.left _ _ _ c.loop-left-test.true tt c.in-Read.ensures.next t);
 }
 
+pub loop-left-preserved-in-Wrote : goal.loop-left-preserved-in-Wrote
+loop-left-preserved-in-Wrote g c = record {
+  sound = c.loop-left.invariant.sound;
+  is_of = c.step.ensures.is_of;
+  fits = c.step.ensures.fits;
+  line = came_empty c.args.machine.program c.loop-left.process c.step.new.self c.loop-left.store c.step.new.cells c.loop-left.line c.step.new.line _ c.in-Wrote.ensures.next (λ e. cc) c.loop-left.invariant.line;
+  rest = λ s new t. c.loop-left.invariant.rest _ _
+      (came_on c.args.machine.program c.loop-left.process c.step.new.self c.loop-left.store c.step.new.cells c.loop-left.line c.step.new.line _ c.loop-left.left _ _ _ c.loop-left-test.true tt c.in-Wrote.ensures.next t);
+}
+
+pub loop-left-preserved : goal.loop-left-preserved
+loop-left-preserved g c = record {
+  sound = c.loop-left.invariant.sound;
+  is_of = c.step.ensures.is_of;
+  fits = c.step.ensures.fits;
+  line = came_empty c.args.machine.program c.loop-left.process c.step.new.self c.loop-left.store c.step.new.cells c.loop-left.line c.step.new.line _ c.in-Inner.ensures.next (λ e. cc) c.loop-left.invariant.line;
+  rest = λ s new t. c.loop-left.invariant.rest _ _
+      (came_on c.args.machine.program c.loop-left.process c.step.new.self c.loop-left.store c.step.new.cells c.loop-left.line c.step.new.line _ c.loop-left.left _ _ _ c.loop-left-test.true tt c.in-Inner.ensures.next t);
+}
+
 pub returns : goal.returns
 returns g c =
     let none : c.loop-left.left ≡ 0 = omega arith in

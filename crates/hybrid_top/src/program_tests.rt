@@ -1,0 +1,145 @@
+//! Programs whose steps, lines and ends were worked out by hand, a row each.
+
+use crate::hybrid;
+use crate::status::Status;
+use hyb_base::bytes::Bytes;
+use hyb_base::decimal::{Decimal, read_u64};
+use hyb_base::no_memory::NoMemory;
+use hyb_base::words::Words;
+use hyb_outside::mem_files::MemFiles;
+use hyb_outside::mem_sink::MemSink;
+use hyb_outside::never_fails_sink::NeverFailsSink;
+use std::alloc::Global;
+use std::test::Fail;
+
+/// Programs that end: their lines behind column 6 with `;` between them, the number of their steps, and the lines
+/// that they print.
+const ENDING: &[u8] = b"I = 7;PRINT *, I;END|4| 7
+PRINT *, I;END|3| 0
+INTEGER A(3);A(2) = 5;PRINT *, A(1), A(2), A(3);END|6| 0 5 0
+INTEGER A(3), B(3);I = 2;B(2) = 9;A(2) = 4;A(I) = B(I) - A(I);PRINT *, A(2);END|12| 5
+INTEGER A(3), B(3);I = 2;B(2) = 9;A(2) = 4;A(I) = A(I) + B(I);PRINT *, A(2);END|11| 13
+INTEGER A(3), B(3);I = 2;B(2) = 9;A(2) = 4;A(I) = B(I) + A(I);PRINT *, A(2);END|11| 13
+INTEGER A(1);A(1) = 6;A(1) = A(1) + A(1);PRINT *, A(1);END|7| 12
+INTEGER A(3);I = 2;A(2) = 4;A(I) = (A(I)) + 1;PRINT *, A(2);END|9| 5
+INTEGER A(3);I = 2;A(2) = 4;A(I) = A(I);PRINT *, A(2);END|9| 4
+I = 3;I = I + I;PRINT *, I;END|7| 6
+I = 10;I = I - 3 + 2;PRINT *, I;END|6| 9
+I = 5;I = 2 * I * 3;PRINT *, I;END|6| 30
+I = 1;J = 4;I = J * 2 + I;PRINT *, I;END|8| 9
+INTEGER A(3), J(2);J(1) = 3;A(3) = 7;A(J(1)) = A(J(1)) * 2;PRINT *, A(J(1));END|9| 14
+INTEGER A(3);I = 1;A(I + 1) = I;PRINT *, A(2);END|7| 1
+I = 9223372036854775807;J = I + 1;K = J / (-1);PRINT *, J, K;END|9| -9223372036854775808 -9223372036854775808
+I = 4294967296;J = I * I;PRINT *, J;END|7| 0
+I = -7;J = I / 2;K = -I / 2;PRINT *, J, K;END|9| -3 3
+INTEGER A(999999);A(999999) = 8;PRINT *, A(999999), A(1), I;END|6| 8 0 0";
+
+/// Programs that fault: their lines, the number of their steps, and the fault's line of the notes.
+const FAULTING: &[u8] = b"INTEGER A(3);A(0) = 1;END|1|FAULT 2 LINE 2
+INTEGER A(3);PRINT *, A(4);END|1|FAULT 2 LINE 2
+INTEGER A(3);I = 9223372036854775807;A(I + 1) = 1;END|3|FAULT 2 LINE 3
+INTEGER A(3);A(4) = 1 / 0;END|1|FAULT 2 LINE 2
+INTEGER A(3);I = 1;A(I) = 1 / 0;END|3|FAULT 1 LINE 3
+I = 1;I = I + 1 / 0;END|2|FAULT 1 LINE 2
+INTEGER A(3);I = 1;J = I / A(I);END|5|FAULT 1 LINE 3";
+
+/// The part of a row at a place, where it has so many.
+fn part(row: &[u8], place: usize) -> Result<&[u8], Fail> {
+    match row.split(|byte| *byte == b'|').nth(place) {
+        Some(part) => Ok(part),
+        None => Err(Fail::from("a row has three parts")),
+    }
+}
+
+/// The file of a program of these lines.
+fn source(alloc: Global, lines: &[u8]) -> Result<Bytes, NoMemory> {
+    let mut source = Bytes::new(alloc);
+    for line in lines.split(|byte| *byte == b';') {
+        source.push_slice(b"      ")?;
+        source.push_slice(line)?;
+        source.push(b'\n')?;
+    }
+    Ok(source)
+}
+
+/// The words of a run of so many steps.
+fn run_words(alloc: Global, steps: u64) -> Result<Words, NoMemory> {
+    let mut words = Words::new(alloc);
+    for word in [b"run".as_slice(), b"P", b"I", b"S"] {
+        words.push(Bytes::from_slice(alloc, word)?)?;
+    }
+    words.push(Bytes::from_slice(alloc, Decimal::new(steps as i64).as_slice())?)?;
+    Ok(words)
+}
+
+/// Whether a program, run for so many steps, gives this exit code, line and notes.
+fn gives(
+    alloc: Global,
+    lines: &[u8],
+    steps: u64,
+    code: u8,
+    out_text: &[u8],
+    notes_text: &[u8],
+) -> Result<bool, NoMemory> {
+    let mut files = MemFiles::new(alloc);
+    files.add(b"P", source(alloc, lines)?.as_slice())?;
+    files.add(b"I", b"")?;
+    files.add(b"S", b"WINDOW 4\nMIX 1\n")?;
+    let mut out = MemSink::new(alloc, 256)?;
+    let mut notes = MemSink::new(alloc, 256)?;
+    let words = run_words(alloc, steps)?;
+    let mut order = NeverFailsSink::new();
+    let status = hybrid(alloc, &words, &mut files, &mut out, &mut notes, &mut order);
+    Ok(status.code() == code && out.taken() == out_text && notes.taken() == notes_text)
+}
+
+/// A line with its LF.
+fn with_feed(alloc: Global, line: &[u8]) -> Result<Bytes, NoMemory> {
+    let mut text = Bytes::from_slice(alloc, line)?;
+    text.push(b'\n')?;
+    Ok(text)
+}
+
+#[test]
+fn programs_end(rt: HostRuntime) -> Result<(), Fail> {
+    let alloc = rt.alloc();
+    for (at, row) in ENDING.split(|byte| *byte == b'\n').enumerate() {
+        let lines = part(row, 0)?;
+        let steps = read_u64(part(row, 1)?).ok_or("a row has its steps")?;
+        let out = with_feed(alloc, part(row, 2)?)?;
+        // exactly the steps that it takes, and one short: END's own step is the last
+        assert!(rt;
+            gives(alloc, lines, steps, 0, out.as_slice(), b"")?,
+            "row {at}"
+        );
+        let spent = steps.saturating_sub(1);
+        assert!(rt;
+            gives(alloc, lines, spent, 5, out.as_slice(), b"STEPS SPENT\n")?,
+            "row {at}"
+        );
+    }
+    Ok(())
+}
+
+#[test]
+fn programs_fault(rt: HostRuntime) -> Result<(), Fail> {
+    let alloc = rt.alloc();
+    for (at, row) in FAULTING.split(|byte| *byte == b'\n').enumerate() {
+        let lines = part(row, 0)?;
+        let steps = read_u64(part(row, 1)?).ok_or("a row has its steps")?;
+        let notes = with_feed(alloc, part(row, 2)?)?;
+        assert!(rt;
+            gives(alloc, lines, steps, 4, b"", notes.as_slice())?,
+            "row {at}"
+        );
+        // one step short no fault has come
+        let spent = steps.saturating_sub(1);
+        if spent > 0 {
+            assert!(rt;
+                gives(alloc, lines, spent, 5, b"", b"STEPS SPENT\n")?,
+                "row {at}"
+            );
+        }
+    }
+    Ok(())
+}
