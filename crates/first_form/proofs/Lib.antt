@@ -1,8 +1,13 @@
 pub mod Accepted
+pub mod Admits
 pub mod Complete
-pub mod ItemTurns
+pub mod Firsts
 pub mod LineLemmas
+pub mod MemberTurns
+pub mod NameLemmas
 pub mod Numbers
+pub mod Resolves
 pub mod Scans
 pub mod Sound
+pub mod SoundPrograms
 pub mod Turns

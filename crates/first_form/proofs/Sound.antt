@@ -1,22 +1,24 @@
 -- What is read is spelled so.
-use Rattle.std.proofs.Common.{◌≡◌, ℕ, zero, suc, ◌^◌, pos, Bool, true, false, ◌==◌, nat_lt, if◌then◌else◌, List, [], ◌∷◌, ◌++◌, length, take, drop, Option, Some, None, refl, sym, ap, ◌∙◌, subst}
+use Rattle.std.proofs.Common.{◌≡◌, ℕ, zero, suc, ◌<◌, ◌^◌, pos, Bool, true, false, ◌==◌, nat_lt, if◌then◌else◌, List, [], ◌∷◌, ◌++◌, length, take, drop, Option, Some, None, refl, sym, ap, ◌∙◌, subst}
 use Rattle.std.proofs.lemmas.Bool.{eqb-true, and_parts, ltb-true}
 use Rattle.std.proofs.lemmas.List.{append_assoc, append-nil, take-append-drop}
 use Rattle.std.proofs.lemmas.Slice.Eq.{bytes_eq-Decides}
 use Rattle.std.specs.Prelude.{codes}
 use Rattle.std.specs.Str.{bytes_eq}
-use Rattle.hyb_base.specs.Decimal.{value_of}
+use Rattle.hyb_base.specs.Decimal.{IsDigits, value_of}
+use Rattle.f77_ast.specs.Name.{IsName, is_name}
 use Rattle.f77_ast.specs.declared.expr.Expr.{Expr}
 use Rattle.f77_ast.specs.declared.expr.Expr.TheVariants as expr
 use Rattle.f77_ast.specs.declared.expr.Op.{Op}
 use Rattle.f77_ast.specs.declared.expr.Op.TheVariants as op
-use Rattle.f77_ast.specs.declared.stmt.Item.{Item}
-use Rattle.f77_ast.specs.declared.stmt.Item.TheVariants as item
+use Rattle.f77_ast.specs.declared.expr.Ref.{Ref}
 use Rattle.f77_ast.specs.declared.stmt.Stmt.{Stmt}
 use Rattle.f77_ast.specs.declared.stmt.Stmt.TheVariants as stmt
-use Rattle.first_form.specs.Spelling.{Text, Level, Sum, Term, Primary, Spells, parentheses, single, product, quotient, unsigned, plus, minus, addition, subtraction, SpellsItems, last, more, SpellsLine, print, end}
+use Rattle.first_form.specs.Spelling.{Text, Level, Sum, Term, Primary, Spells, reference, parentheses, single, product, quotient, unsigned, plus, minus, addition, subtraction, SpellsReference, subscripted, SpellsItem, plain, SpellsDeclaration, scalar, array, SpellsMembers, last, more, SpellsLine, print, declare, assign, end}
 use Rattle.first_form.specs.Spelling as spelling
-use Rattle.first_form.specs.Reading.{Outcome, Parser, and_then, ◌>>=◌, ◌>>◌, pure, eat, expect, term_operator, sum_operator, sign, after_operator, operator, on_operator, signed, digits, is_number, number, more_operands, primary, term, sum, sum_within, more_items, items, print_of, statement_of}
+use Rattle.first_form.specs.Reading as reading
+use Rattle.first_form.specs.Reading.{Outcome, Parser, and_then, ◌>>=◌, ◌>>◌, pure, eat, expect, term_operator, sum_operator, sign, after_operator, operator, on_operator, signed, digits, is_number, number, sees_digit, alphanumerics, name, more_operands, operand, primary, term, sum, sum_within, more_members, members, declaration, declarations, item_of, items, assignment, body, whole_of, statement_of}
+use Rattle.first_form.specs.Trees.{variable, element, bound_to, declared}
 use Rattle.first_form.proofs.Numbers.{digits_all}
 
 -- what holds of an item and of the text after it, where one is read
@@ -97,6 +99,10 @@ sign_joins b o a s e h = by (b == 43) (b == 45) refl refl e
 closes : (i k l m s : Text) → i ≡ 40 ∷ k → k ≡ s ++ l → l ≡ 41 ∷ m → i ≡ (40 ∷ (s ++ 41 ∷ [])) ++ m
 closes i k l m s c b d = c ∙ ap (λ x. 40 ∷ x) (b ∙ ap (λ x. s ++ x) d ∙ sym (append_assoc s (41 ∷ []) m))
 
+-- the text of a name and of what stands in parentheses behind it
+called : (i j k l m n s : Text) → i ≡ n ++ j → j ≡ 40 ∷ k → k ≡ s ++ l → l ≡ 41 ∷ m → i ≡ (n ++ 40 ∷ (s ++ 41 ∷ [])) ++ m
+called i j k l m n s e c b d = e ∙ ap (λ x. n ++ x) (closes j k l m s c b d) ∙ sym (append_assoc n (40 ∷ (s ++ 41 ∷ [])) m)
+
 joins : (s t r j k : Text) (b : ℕ) → j ≡ b ∷ k → k ≡ t ++ r → s ++ j ≡ (s ++ b ∷ t) ++ r
 joins s t r j k b c d = ap (λ x. s ++ x) (c ∙ ap (λ x. b ∷ x) d) ∙ sym (append_assoc s (b ∷ t) r)
 
@@ -105,15 +111,35 @@ joins s t r j k b c d = ap (λ x. s ++ x) (c ∙ ap (λ x. b ∷ x) d) ∙ sym (
 abbrev Sound : Parser Expr → Level → Type 0
 Sound p l = (i : Text) → Holds (Begins l i) (p i)
 
-number_sound : Sound number Primary
+-- digits that are a number, and the tree of their value
+abbrev IsNumberOf : Expr → Text → Type 0
+IsNumberOf a s = IsDigits s × (value_of s < 2 ^ 63) × (a ≡ expr.Int (pos (value_of s)))
+
+-- digits come first
+digits_sound : (i : Text) → Holds (λ a r. (s : Text) × (i ≡ s ++ r) × IsNumberOf a s) (number i)
 unfolding number
-number_sound i = by (is_number (take (digits i) i)) refl
+digits_sound i = by (is_number (take (digits i) i)) refl
   where
-    by : (t : Bool) → is_number (take (digits i) i) ≡ t → Holds (Begins Primary i) (if t then Some (expr.Int (pos (value_of (take (digits i) i))), drop (digits i) i) else None)
+    by : (t : Bool) → is_number (take (digits i) i) ≡ t → Holds (λ a r. (s : Text) × (i ≡ s ++ r) × IsNumberOf a s) (if t then Some (expr.Int (pos (value_of (take (digits i) i))), drop (digits i) i) else None)
     by false e = tt
     by true e =
         let p = and_parts (nat_lt 0 (length (take (digits i) i))) (nat_lt (value_of (take (digits i) i)) (2 ^ 63)) e in
-        (take (digits i) i, sym (take-append-drop (digits i) i), spelling.number (take (digits i) i) (digits_all i, ltb-true 0 (length (take (digits i) i)) p.0) (ltb-true (value_of (take (digits i) i)) (2 ^ 63) p.1))
+        (take (digits i) i, sym (take-append-drop (digits i) i), ((digits_all i, ltb-true 0 (length (take (digits i) i)) p.0), ltb-true (value_of (take (digits i) i)) (2 ^ 63) p.1, refl))
+
+number_sound : Sound number Primary
+number_sound i = holds_weak (number i) (λ a r. (s : Text) × (i ≡ s ++ r) × IsNumberOf a s) (Begins Primary i) (digits_sound i) (λ a r h. (h.0, h.1, subst (λ x. Spells Primary x h.0) (sym h.2.2) (spelling.number h.0 h.2.0 h.2.1)))
+
+-- a name comes first
+abbrev BeginsName : Text → Text → Text → Type 0
+BeginsName i n r = (i ≡ n ++ r) × IsName n
+
+name_sound : (i : Text) → Holds (BeginsName i) (name i)
+unfolding name
+name_sound i = by (is_name (take (alphanumerics i) i)) refl
+  where
+    by : (t : Bool) → is_name (take (alphanumerics i) i) ≡ t → Holds (BeginsName i) (if t then Some (take (alphanumerics i) i, drop (alphanumerics i) i) else None)
+    by false e = tt
+    by true e = (sym (take-append-drop (alphanumerics i) i), e)
 
 -- what was read, and more
 abbrev Longer : Level → Text → Text → Expr → Text → Type 0
@@ -130,14 +156,33 @@ module _ (operand : Parser Expr) (which : ℕ → Option Op) (low high : Level) 
       (more_sound n (expr.Binary o a x) (s ++ b ∷ g.0) j (joined b o a x s g.0 e h g.2)) (λ y r w. (w.0, joins s g.0 j i k b c g.1 ∙ w.1, w.2))))
       (s, refl, h)
 
+-- a reference comes first
+abbrev BeginsReference : Text → Ref → Text → Type 0
+BeginsReference i a r = (s : Text) × (i ≡ s ++ r) × SpellsReference a s
+
 -- the grammar, where the inner reader is sound
 module _ (inner : Parser Expr) (sound : Sound inner Sum) where
+  reference_sound : (i : Text) → Holds (BeginsReference i) (reading.reference inner i)
+  unfolding reading.reference
+  reference_sound i = holds_bind (name i) _ (BeginsName i) (BeginsReference i) (name_sound i) (λ n j b. eats 40 j (λ t. if t then (inner >>= (λ a. expect 41 >> pure (element n a))) else pure (variable n)) (BeginsReference i)
+      (λ k c. holds_bind (inner k) _ (Begins Sum k) (BeginsReference i) (sound k) (λ a l h. holds_bind (expect 41 l) _ (λ u m. l ≡ 41 ∷ m) (BeginsReference i) (expects 41 l) (λ u m d.
+      (n ++ 40 ∷ (h.0 ++ 41 ∷ []), called i j k l m n h.0 b.0 c h.1 d, subscripted n b.1 h.2))))
+      (n, b.0, spelling.name n b.1))
+
+  operand_sound : Sound (operand inner) Primary
+  unfolding operand
+  operand_sound i = by (sees_digit i)
+    where
+      by : (t : Bool) → Holds (Begins Primary i) (if t then number i else and_then (reading.reference inner i) (λ r. pure (expr.Ref r)))
+      by true = number_sound i
+      by false = holds_bind (reading.reference inner i) _ (BeginsReference i) (Begins Primary i) (reference_sound i) (λ r j h. (h.0, h.1, reference h.2))
+
   primary_sound : Sound (primary inner) Primary
   unfolding primary
-  primary_sound i = eats 40 i (λ t. if t then (inner >>= (λ a. expect 41 >> pure (expr.Paren a))) else number) (Begins Primary i)
+  primary_sound i = eats 40 i (λ t. if t then (inner >>= (λ a. expect 41 >> pure (expr.Paren a))) else operand inner) (Begins Primary i)
       (λ k c. holds_bind (inner k) _ (Begins Sum k) (Begins Primary i) (sound k) (λ a l b. holds_bind (expect 41 l) _ (λ u m. l ≡ 41 ∷ m) (Begins Primary i) (expects 41 l) (λ u m d.
       (40 ∷ (b.0 ++ 41 ∷ []), closes i k l m b.0 c b.1 d, parentheses b.2))))
-      (number_sound i)
+      (operand_sound i)
 
   term_sound : Sound (term inner) Term
   unfolding term
@@ -160,49 +205,88 @@ unfolding sum_within
 within_sound zero i = tt
 within_sound (suc depth) i = sum_sound (sum_within depth) (within_sound depth) i
 
--- ---- items
+-- ---- lists
 
-abbrev Grows : List Item → Text → List Item → Text → Type 0
-Grows found i all r = (new : List Item) × (all ≡ found ++ new) × ((s : Text) × (i ≡ s ++ r) × SpellsItems new s)
+-- a text that is spelled comes first
+abbrev BeginsAs : {A : Type 0} → (A → Text → Type 0) → Text → A → Text → Type 0
+BeginsAs SpellsOne i a r = (s : Text) × (i ≡ s ++ r) × SpellsOne a s
 
-abbrev BeginsItems : Text → List Item → Text → Type 0
-BeginsItems i all r = (s : Text) × (i ≡ s ++ r) × SpellsItems all s
+abbrev Grows : {A : Type 0} → (A → Text → Type 0) → List A → Text → List A → Text → Type 0
+Grows {A} SpellsOne found i all r = (new : List A) × (all ≡ found ++ new) × ((s : Text) × (i ≡ s ++ r) × SpellsMembers SpellsOne new s)
 
-module _ (one : Parser Expr) (sound : Sound one Sum) where
-  more_items_sound : (n : ℕ) (found : List Item) (i : Text) → Holds (Grows found i) (more_items one n found i)
-  unfolding more_items
-  more_items_sound zero found i = tt
-  more_items_sound (suc n) found i = holds_bind (one i) _ (Begins Sum i) (Grows found i) (sound i) (λ a j b. eats 44 j (λ t. if t then more_items one n (found ++ item.Plain a ∷ []) else pure (found ++ item.Plain a ∷ [])) (Grows found i)
-      (λ k c. holds_weak (more_items one n (found ++ item.Plain a ∷ []) k) (Grows (found ++ item.Plain a ∷ []) k) (Grows found i) (more_items_sound n (found ++ item.Plain a ∷ []) k) (λ all r h.
-      (item.Plain a ∷ h.0, h.1 ∙ append_assoc found (item.Plain a ∷ []) h.0, (b.0 ++ 44 ∷ h.2.0, b.1 ∙ joins b.0 h.2.0 r j k 44 c h.2.1, more b.2 h.2.2))))
-      (item.Plain a ∷ [], refl, (b.0, b.1, last b.2)))
+module _ {A : Type 0} (one : Parser A) (SpellsOne : A → Text → Type 0) (sound : (i : Text) → Holds (BeginsAs SpellsOne i) (one i)) where
+  more_members_sound : (n : ℕ) (found : List A) (i : Text) → Holds (Grows SpellsOne found i) (more_members one n found i)
+  unfolding more_members
+  more_members_sound zero found i = tt
+  more_members_sound (suc n) found i = holds_bind (one i) _ (BeginsAs SpellsOne i) (Grows SpellsOne found i) (sound i) (λ a j b. eats 44 j (λ t. if t then more_members one n (found ++ a ∷ []) else pure (found ++ a ∷ [])) (Grows SpellsOne found i)
+      (λ k c. holds_weak (more_members one n (found ++ a ∷ []) k) (Grows SpellsOne (found ++ a ∷ []) k) (Grows SpellsOne found i) (more_members_sound n (found ++ a ∷ []) k) (λ all r h.
+      (a ∷ h.0, h.1 ∙ append_assoc found (a ∷ []) h.0, (b.0 ++ 44 ∷ h.2.0, b.1 ∙ joins b.0 h.2.0 r j k 44 c h.2.1, more b.2 h.2.2))))
+      (a ∷ [], refl, (b.0, b.1, last b.2)))
 
-  items_sound : (i : Text) → Holds (BeginsItems i) (items one i)
-  unfolding items
-  items_sound i = holds_weak (more_items one (suc (length i)) [] i) (Grows [] i) (BeginsItems i) (more_items_sound (suc (length i)) [] i) (λ all r h. subst (λ x. BeginsItems i x r) (sym h.1) h.2)
+  members_sound : (i : Text) → Holds (BeginsAs (SpellsMembers SpellsOne) i) (members one i)
+  unfolding members
+  members_sound i = holds_weak (more_members one (suc (length i)) [] i) (Grows SpellsOne [] i) (BeginsAs (SpellsMembers SpellsOne) i) (more_members_sound (suc (length i)) [] i) (λ all r h. subst (λ x. BeginsAs (SpellsMembers SpellsOne) i x r) (sym h.1) h.2)
 
 -- ---- statements
 
-print_sound : (list : Text) (o : Outcome (List Item)) (s : Stmt) → Holds (BeginsItems list) o → print_of o ≡ Some s → SpellsLine (codes "PRINT*," ++ list) s
-print_sound list None s h e = cc
-print_sound list (Some (all, [])) s h e =
-    let k : stmt.Print all ≡ s = cc in
-    let t : list ≡ h.0 = h.1 ∙ append-nil h.0 in
-    rw (t, ← k) (print h.2)
-print_sound list (Some (all, b ∷ r)) s h e = cc
+declaration_sound : (i : Text) → Holds (BeginsAs SpellsDeclaration i) (declaration i)
+unfolding declaration
+declaration_sound i = holds_bind (name i) _ (BeginsName i) (BeginsAs SpellsDeclaration i) (name_sound i) (λ n j b. eats 40 j (λ t. if t then (number >>= (λ last. expect 41 >> pure (declared n (bound_to last ∷ [])))) else pure (declared n [])) (BeginsAs SpellsDeclaration i)
+    (λ k c. holds_bind (number k) _ (λ a r. (s : Text) × (k ≡ s ++ r) × IsNumberOf a s) (BeginsAs SpellsDeclaration i) (digits_sound k) (λ a l h. holds_bind (expect 41 l) _ (λ u m. l ≡ 41 ∷ m) (BeginsAs SpellsDeclaration i) (expects 41 l) (λ u m d.
+    (n ++ 40 ∷ (h.0 ++ 41 ∷ []), called i j k l m n h.0 b.0 c h.1 d, subst (λ x. SpellsDeclaration (declared n (bound_to x ∷ [])) (n ++ 40 ∷ (h.0 ++ 41 ∷ []))) (sym h.2.2) (array n h.0 b.1 h.2.0 h.2.1)))))
+    (n, b.0, scalar n b.1))
+
+-- a statement's text behind a word
+abbrev Behind : Text → Text → Stmt → Text → Type 0
+Behind word i one r = (s : Text) × (i ≡ s ++ r) × SpellsLine (word ++ s) one
+
+declarations_sound : (i : Text) → Holds (Behind (codes "INTEGER") i) (declarations i)
+unfolding declarations
+declarations_sound i = holds_bind (members declaration i) _ (BeginsAs (SpellsMembers SpellsDeclaration) i) (Behind (codes "INTEGER") i) (members_sound declaration SpellsDeclaration declaration_sound i) (λ all r h. (h.0, h.1, declare h.2))
+
+module _ (inner : Parser Expr) (sound : Sound inner Sum) where
+  item_sound : (i : Text) → Holds (BeginsAs SpellsItem i) (item_of inner i)
+  unfolding item_of
+  item_sound i = holds_bind (inner i) _ (Begins Sum i) (BeginsAs SpellsItem i) (sound i) (λ a r h. (h.0, h.1, plain h.2))
+
+  items_sound : (i : Text) → Holds (Behind (codes "PRINT*,") i) (items inner i)
+  unfolding items
+  items_sound i = holds_bind (members (item_of inner) i) _ (BeginsAs (SpellsMembers SpellsItem) i) (Behind (codes "PRINT*,") i) (members_sound (item_of inner) SpellsItem item_sound i) (λ all r h. (h.0, h.1, print h.2))
+
+  assignment_sound : (i : Text) → Holds (Behind [] i) (assignment inner i)
+  unfolding assignment
+  assignment_sound i = holds_bind (reading.reference inner i) _ (BeginsReference i) (Behind [] i) (reference_sound inner sound i) (λ target j b. holds_bind (expect 61 j) _ (λ u k. j ≡ 61 ∷ k) (Behind [] i) (expects 61 j) (λ u k c.
+      holds_bind (inner k) _ (Begins Sum k) (Behind [] i) (sound k) (λ value r h. (b.0 ++ 61 ∷ h.0, b.1 ∙ joins b.0 h.0 r j k 61 c h.1, assign b.2 h.2))))
+
+  -- behind a word
+  behind : (word i : Text) (p : Parser Stmt) → take 7 i ≡ word → ((j : Text) → Holds (Behind word j) (p j)) → Holds (Behind [] i) (p (drop 7 i))
+  behind word i p e h = holds_weak (p (drop 7 i)) (Behind word (drop 7 i)) (Behind [] i) (h (drop 7 i)) (λ one r b.
+      (word ++ b.0, sym (take-append-drop 7 i) ∙ ap (λ x. x ++ drop 7 i) e ∙ ap (λ x. word ++ x) b.1 ∙ sym (append_assoc word b.0 r), b.2))
+
+  body_sound : (i : Text) → Holds (Behind [] i) (body inner i)
+  unfolding body
+  body_sound i = by (bytes_eq (take 7 i) (codes "PRINT*,")) (bytes_eq (take 7 i) (codes "INTEGER")) refl refl
+    where
+      by : (p q : Bool) → bytes_eq (take 7 i) (codes "PRINT*,") ≡ p → bytes_eq (take 7 i) (codes "INTEGER") ≡ q → Holds (Behind [] i) (if p then items inner (drop 7 i) else (if q then declarations (drop 7 i) else assignment inner i))
+      by true q f g = behind (codes "PRINT*,") i (items inner) ((bytes_eq-Decides (take 7 i) (codes "PRINT*,")).0 f) items_sound
+      by false true f g = behind (codes "INTEGER") i declarations ((bytes_eq-Decides (take 7 i) (codes "INTEGER")).0 g) declarations_sound
+      by false false f g = assignment_sound i
+
+whole_sound : (text : Text) (o : Outcome Stmt) (s : Stmt) → Holds (Behind [] text) o → whole_of o ≡ Some s → SpellsLine text s
+whole_sound text None s h e = cc
+whole_sound text (Some (one, [])) s h e =
+    let k : one ≡ s = cc in
+    let t : text ≡ h.0 = h.1 ∙ append-nil h.0 in
+    rw (t, ← k) h.2
+whole_sound text (Some (one, b ∷ r)) s h e = cc
 
 pub read_is_spelled : (text : Text) (s : Stmt) → statement_of text ≡ Some s → SpellsLine text s
 unfolding statement_of
-read_is_spelled text s e = by (bytes_eq text (codes "END")) (bytes_eq (take 7 text) (codes "PRINT*,")) refl refl e
+read_is_spelled text s e = by (bytes_eq text (codes "END")) refl e
   where
-    by : (p q : Bool) → bytes_eq text (codes "END") ≡ p → bytes_eq (take 7 text) (codes "PRINT*,") ≡ q → (if p then Some stmt.End else (if q then print_of (items (sum_within (length text)) (drop 7 text)) else None)) ≡ Some s → SpellsLine text s
-    by true q f g e =
+    by : (p : Bool) → bytes_eq text (codes "END") ≡ p → (if p then Some stmt.End else whole_of (body (sum_within (length text)) text)) ≡ Some s → SpellsLine text s
+    by true f e =
         let t : text ≡ codes "END" = (bytes_eq-Decides text (codes "END")).0 f in
         let k : stmt.End ≡ s = cc in
         rw (t, ← k) end
-    by false true f g e =
-        let t : take 7 text ≡ codes "PRINT*," = (bytes_eq-Decides (take 7 text) (codes "PRINT*,")).0 g in
-        let w : text ≡ codes "PRINT*," ++ drop 7 text = sym (take-append-drop 7 text) ∙ ap (λ x. x ++ drop 7 text) t in
-        let h = print_sound (drop 7 text) (items (sum_within (length text)) (drop 7 text)) s (items_sound (sum_within (length text)) (within_sound (length text)) (drop 7 text)) e in
-        subst (λ x. SpellsLine x s) (sym w) h
-    by false false f g e = cc
+    by false f e = whole_sound text (body (sum_within (length text)) text) s (body_sound (sum_within (length text)) (within_sound (length text)) text) e

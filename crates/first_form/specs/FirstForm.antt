@@ -1,16 +1,21 @@
--- Which files are programs so far: every line but the last is a PRINT, and the last is END. Every other line is refused
--- until its statement is built.
-use Rattle.std.specs.Prelude.{ℕ, zero, suc, ◌+◌, max, Bool, true, false, not, ◌&&◌, nat_le, List, [], ◌∷◌, length, take, codes, Option, None, Some, Result, Ok, Err, if◌then◌else◌}
+-- Which files are programs so far: lines of INTEGER, then lines of assignments and PRINTs, and END as the last. Every other
+-- line is refused until its statement is built.
+use Rattle.std.specs.Prelude.{ℕ, zero, suc, ◌+◌, pos, max, map, replicate, Bool, true, false, not, ◌&&◌, nat_le, List, [], ◌∷◌, length, take, codes, Option, None, Some, Result, Ok, Err, if◌then◌else◌}
 use Rattle.std.specs.List.{list_all}
 use Rattle.std.specs.Option.{is_some}
 use Rattle.std.specs.Str.{bytes_eq}
 use Rattle.f77_ast.specs.declared.refusal.Refusal.{Refusal}
 use Rattle.f77_ast.specs.declared.program.Listed.{Listed}
+use Rattle.f77_ast.specs.declared.program.Layout.{Layout}
 use Rattle.f77_ast.specs.declared.program.Program.{Program}
+use Rattle.f77_ast.specs.declared.specification.Declarator.{Declarator}
 use Rattle.f77_ast.specs.declared.stmt.Stmt.{Stmt}
 use Rattle.first_form.specs.Columns.{has_tab, is_in_columns, text_of}
 use Rattle.first_form.specs.Lines.{lines_of}
+use Rattle.first_form.specs.Names.{declarations, mentions}
 use Rattle.first_form.specs.Reading.{statement_of}
+use Rattle.first_form.specs.Rules.{statements_keep}
+use Rattle.first_form.specs.Storage.{appearing, total_units, entities_from, regions_from}
 
 -- the greatest number of bytes of a file
 abbrev pub byte_limit : ℕ
@@ -51,9 +56,23 @@ ends_once [] = true
 ends_once (line ∷ []) = true
 ends_once (line ∷ next ∷ lines) = not (is_end_line line) && ends_once (next ∷ lines)
 
+-- a statement, where there is one, before others
+abbrev pub with_listed : Option Listed → List Listed → List Listed
+with_listed None all = all
+with_listed (Some one) all = one ∷ all
+
+-- the statements of lines that are numbered from n on
+abbrev pub listing_of : ℕ → List (List ℕ) → List Listed
+listing_of n [] = []
+listing_of n (line ∷ lines) = with_listed (listed_of n line) (listing_of (n + 1) lines)
+
+-- their statements alone
+abbrev pub statements_of : List Listed → List Stmt
+statements_of listing = map (λ one. one.stmt) listing
+
 -- whether these first lines of a file keep the rules
 abbrev pub keeps_rules : List (List ℕ) → Bool
-keeps_rules lines = nat_le (length lines) statement_limit && list_all is_statement lines && ends_once lines
+keeps_rules lines = nat_le (length lines) statement_limit && list_all is_statement lines && ends_once lines && statements_keep (statements_of (listing_of 1 lines))
 
 -- the number, from n on, of the first line that passes a test
 abbrev pub first_passing : (List ℕ → Bool) → ℕ → List (List ℕ) → Option ℕ
@@ -75,31 +94,34 @@ ends_in_end [] = false
 ends_in_end (line ∷ []) = is_end_line line
 ends_in_end (line ∷ next ∷ lines) = ends_in_end (next ∷ lines)
 
--- a statement, where there is one, before others
-abbrev pub with_listed : Option Listed → List Listed → List Listed
-with_listed None all = all
-with_listed (Some one) all = one ∷ all
+-- the names of statements, each once, in the order of their first appearance
+abbrev pub names_of : List Stmt → List Declarator
+names_of statements = appearing (declarations statements) (mentions statements)
 
--- the statements of lines that are numbered from n on
-abbrev pub listing_of : ℕ → List (List ℕ) → List Listed
-listing_of n [] = []
-listing_of n (line ∷ lines) = with_listed (listed_of n line) (listing_of (n + 1) lines)
+-- where names stand in storage: one behind the other, each a region of its own, and every unit opens as 0
+abbrev pub layout_of : List Declarator → Layout
+layout_of names = record {
+  regions = regions_from 0 names;
+  entities = entities_from 0 names;
+  total = total_units names;
+  first = replicate (total_units names) (pos 0);
+}
 
--- the program of some statements: a main unit without a name, no storage and no loop
-abbrev pub program_with : List Listed → Program
-program_with listing = record {
+-- the program of some statements and their layout: a main unit without a name, and no loop
+abbrev pub program_with : List Listed → Layout → Program
+program_with listing layout = record {
   units = record {
     name = None;
     listing = listing;
     code = record { instrs = []; starts = []; texts = [] };
   } ∷ [];
-  layout = record { regions = []; entities = []; total = 0; first = [] };
+  layout = layout;
   loops = [];
 }
 
 -- the program of lines that keep the rules and end in END
 abbrev pub program_of : List (List ℕ) → Program
-program_of lines = program_with (listing_of 1 lines)
+program_of lines = program_with (listing_of 1 lines) (layout_of (names_of (statements_of (listing_of 1 lines))))
 
 -- a refusal of a line by a rule
 abbrev pub refused : ℕ → ℕ → Result Program Refusal

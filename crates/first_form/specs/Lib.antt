@@ -2,7 +2,13 @@ pub mod Columns
 pub mod FirstForm
 pub mod Laws
 pub mod Lines
+pub mod Names
+pub mod Pass
 pub mod Read
 pub mod Reading
+pub mod Rules
 pub mod Sound
 pub mod Spelling
+pub mod Storage
+pub mod Table
+pub mod Trees

@@ -4,15 +4,19 @@ use Rattle.std.specs.List.{prefix_len}
 use Rattle.std.specs.Char.{is_ascii_digit}
 use Rattle.std.specs.Str.{bytes_eq}
 use Rattle.hyb_base.specs.Decimal.{value_of}
+use Rattle.f77_ast.specs.Name.{is_name, is_alphanumeric}
 use Rattle.f77_ast.specs.declared.expr.Expr.{Expr}
 use Rattle.f77_ast.specs.declared.expr.Expr.TheVariants as expr
 use Rattle.f77_ast.specs.declared.expr.Op.{Op}
 use Rattle.f77_ast.specs.declared.expr.Op.TheVariants as op
+use Rattle.f77_ast.specs.declared.expr.Ref.{Ref}
+use Rattle.f77_ast.specs.declared.specification.TypedDeclarator.{TypedDeclarator}
 use Rattle.f77_ast.specs.declared.stmt.Item.{Item}
 use Rattle.f77_ast.specs.declared.stmt.Item.TheVariants as item
 use Rattle.f77_ast.specs.declared.stmt.Stmt.{Stmt}
 use Rattle.f77_ast.specs.declared.stmt.Stmt.TheVariants as stmt
 use Rattle.first_form.specs.Spelling.{Text}
+use Rattle.first_form.specs.Trees.{variable, element, bound_to, declared, integers}
 
 -- what is read, and the text after it; none where the text doesn't begin with what is sought
 abbrev pub Outcome : Type 0 → Type 0
@@ -115,6 +119,22 @@ number_by s rest = if is_number s then Some (expr.Int (pos (value_of s)), rest) 
 unfoldable pub number : Parser Expr
 number = λ i. number_by (take (digits i) i) (drop (digits i) i)
 
+-- whether a digit comes next
+abbrev pub sees_digit : Text → Bool
+sees_digit [] = false
+sees_digit (c ∷ i) = is_ascii_digit c
+
+-- how many letters and digits come next
+abbrev pub alphanumerics : Text → ℕ
+alphanumerics i = prefix_len is_alphanumeric i
+
+abbrev pub name_by : Text → Text → Outcome Text
+name_by s rest = if is_name s then Some (s, rest) else None
+
+-- name: the letters and digits that come next, one to six, the first of which is a letter
+unfoldable pub name : Parser Text
+name = λ i. name_by (take (alphanumerics i) i) (drop (alphanumerics i) i)
+
 -- operators with their right operands, so many at most, after a left operand
 unfoldable pub more_operands : Parser Expr → (ℕ → Option Op) → ℕ → Expr → Parser Expr
 more_operands operand which zero left = pure left
@@ -122,9 +142,17 @@ more_operands operand which (suc turns) left = operator which >>= (λ next. on_o
 
 -- the grammar, where `inner` reads what stands in parentheses
 module _ (inner : Parser Expr) where
-  -- primary: digits of value at most 2^63 - 1; `(` sum `)`
+  -- reference: name; name `(` sum `)`
+  unfoldable pub reference : Parser Ref
+  reference = name >>= (λ n. eat 40 >>= (λ opens. if opens then (inner >>= (λ a. expect 41 >> pure (element n a))) else pure (variable n)))
+
+  -- operand: digits of value at most 2^63 - 1; reference
+  unfoldable pub operand : Parser Expr
+  operand = λ i. if sees_digit i then number i else and_then (reference i) (λ r. pure (expr.Ref r))
+
+  -- primary: operand; `(` sum `)`
   unfoldable pub primary : Parser Expr
-  primary = eat 40 >>= (λ opens. if opens then (inner >>= (λ a. expect 41 >> pure (expr.Paren a))) else number)
+  primary = eat 40 >>= (λ opens. if opens then (inner >>= (λ a. expect 41 >> pure (expr.Paren a))) else operand)
 
   -- term: primary; term `*` primary; term `/` primary
   unfoldable pub term : Parser Expr
@@ -139,22 +167,46 @@ unfoldable pub sum_within : ℕ → Parser Expr
 sum_within zero = refuse
 sum_within (suc depth) = sum (sum_within depth)
 
--- sums with commas between, so many at most, after some items
-unfoldable pub more_items : Parser Expr → ℕ → List Item → Parser (List Item)
-more_items one zero found = refuse
-more_items one (suc turns) found = one >>= (λ a. eat 44 >>= (λ comma. if comma then more_items one turns (found ++ item.Plain a ∷ []) else pure (found ++ item.Plain a ∷ [])))
+-- members of a list with commas between, so many at most, after some
+unfoldable pub more_members : {A : Type 0} → Parser A → ℕ → List A → Parser (List A)
+more_members one zero found = refuse
+more_members one (suc turns) found = one >>= (λ a. eat 44 >>= (λ comma. if comma then more_members one turns (found ++ a ∷ []) else pure (found ++ a ∷ [])))
 
--- list(sum): one or more sums with commas between
-unfoldable pub items : Parser Expr → Parser (List Item)
-items one = λ i. more_items one (suc (length i)) [] i
+-- list(one): one or more members with commas between
+unfoldable pub members : {A : Type 0} → Parser A → Parser (List A)
+members one = λ i. more_members one (suc (length i)) [] i
 
--- the PRINT of items after which no text is left
-abbrev pub print_of : Outcome (List Item) → Option Stmt
-print_of (Some (all, [])) = Some (stmt.Print all)
-print_of _ = None
+-- declaration: name; name `(` digits of value at most 2^63 - 1 `)`
+unfoldable pub declaration : Parser TypedDeclarator
+declaration = name >>= (λ n. eat 40 >>= (λ opens. if opens then (number >>= (λ last. expect 41 >> pure (declared n (bound_to last ∷ [])))) else pure (declared n [])))
+
+-- what follows `INTEGER`: list(declaration)
+unfoldable pub declarations : Parser Stmt
+declarations = members declaration >>= (λ all. pure (integers all))
+
+-- the statements, where `inner` reads a sum
+module _ (inner : Parser Expr) where
+  -- an item of PRINT: sum
+  unfoldable pub item_of : Parser Item
+  item_of = inner >>= (λ a. pure (item.Plain a))
+
+  -- what follows `PRINT*,`: list(sum)
+  unfoldable pub items : Parser Stmt
+  items = members item_of >>= (λ all. pure (stmt.Print all))
+
+  -- reference `=` sum
+  unfoldable pub assignment : Parser Stmt
+  assignment = reference inner >>= (λ target. expect 61 >> (inner >>= (λ value. pure (stmt.Assign target value))))
+
+  -- `PRINT*,` list(sum); `INTEGER` list(declaration); reference `=` sum
+  unfoldable pub body : Parser Stmt
+  body = λ i. if bytes_eq (take 7 i) (codes "PRINT*,") then items (drop 7 i) else (if bytes_eq (take 7 i) (codes "INTEGER") then declarations (drop 7 i) else assignment i)
+
+-- the statement that was read, where no text is left
+abbrev pub whole_of : Outcome Stmt → Option Stmt
+whole_of (Some (s, [])) = Some s
+whole_of _ = None
 
 -- the statement that a text spells: no parentheses in it nest deeper than it is long
 unfoldable pub statement_of : Text → Option Stmt
-statement_of text =
-    if bytes_eq text (codes "END") then Some stmt.End
-    else (if bytes_eq (take 7 text) (codes "PRINT*,") then print_of (items (sum_within (length text)) (drop 7 text)) else None)
+statement_of text = if bytes_eq text (codes "END") then Some stmt.End else whole_of (body (sum_within (length text)) text)

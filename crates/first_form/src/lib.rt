@@ -1,15 +1,21 @@
-//! The form of programs so far: lines of PRINT, and END as the last line.
+//! The form of programs so far: lines of INTEGER, then lines of assignments and PRINTs, and END as the last line.
 //!
-//! Read by recursive descent, a function for each rule of the grammar, and proved to be what the grammar spells.
+//! Read by recursive descent, a function for each rule of the grammar, and proved to be what the grammar spells. The
+//! names go into one table, line by line, which is proved to be the table of the whole text.
 #![tactic(auto)]
 
+mod broken;
 pub mod columns;
+mod declaration;
 pub mod front;
 pub mod laws;
 pub mod lines;
+mod names;
+mod pass;
 mod reader;
 pub mod statement;
 mod sums;
+mod table;
 #[cfg(test)]
 mod tests;
 mod unread;

@@ -1,13 +1,16 @@
 //! What is left of a text while a statement is read from it, and the smallest parts that are taken from it.
-ghost use Rattle.std.specs.Prelude.{◌≡◌, ◌≤◌, ◌<◌, ◌^◌, length, pos, SomeIff};
+ghost use Rattle.std.specs.Prelude.{◌≡◌, ◌≤◌, ◌<◌, ◌^◌, length, take, drop, pos, codes, SomeIff, if◌then◌else◌};
+ghost use Rattle.std.specs.Str.{bytes_eq};
 ghost use Rattle.std.specs.List.{list_all};
 ghost use Rattle.std.specs.Char.{is_ascii_digit};
 ghost use Rattle.hyb_base.specs.Decimal.{IsDigits, value_of};
+ghost use Rattle.f77_ast.specs.Name.{is_alphanumeric};
 ghost use Rattle.first_form.specs.Read.{Reads};
 ghost use Rattle.first_form.specs.Reading as spec;
 
 use crate::unread::Unread;
 use f77_ast::expr::{Expr, Op};
+use f77_ast::name::Name;
 use std::marker::Model;
 
 /// What is left of a text.
@@ -62,6 +65,44 @@ impl<'a> Reader<'a> {
             Ok(())
         } else {
             Err(Unread::Unspelled)
+        }
+    }
+
+    /// Whether a digit comes next.
+    pub fn sees_digit(&self) -> bool
+        ensures { result ≡ spec.sees_digit self.now }
+    {
+        match self.rest {
+            [first, ..] => first.is_ascii_digit(),
+            [] => false,
+        }
+    }
+
+    /// Takes `PRINT*,`, where it comes next.
+    pub fn eat_print(&mut self) -> bool
+        ensures found { result ≡ bytes_eq (take 7 self.old) (codes "PRINT*,") }
+        ensures after { self.new ≡ (if bytes_eq (take 7 self.old) (codes "PRINT*,") then drop 7 self.old else self.old) }
+    {
+        match self.rest.strip_prefix(b"PRINT*,".as_slice()) {
+            Some(rest) => {
+                self.rest = rest;
+                true
+            }
+            None => false,
+        }
+    }
+
+    /// Takes `INTEGER`, where it comes next.
+    pub fn eat_integer(&mut self) -> bool
+        ensures found { result ≡ bytes_eq (take 7 self.old) (codes "INTEGER") }
+        ensures after { self.new ≡ (if bytes_eq (take 7 self.old) (codes "INTEGER") then drop 7 self.old else self.old) }
+    {
+        match self.rest.strip_prefix(b"INTEGER".as_slice()) {
+            Some(rest) => {
+                self.rest = rest;
+                true
+            }
+            None => false,
         }
     }
 
@@ -121,6 +162,39 @@ impl<'a> Reader<'a> {
             None => Err(Unread::Unspelled),
         }
     }
+
+    /// Takes a name: letters and digits, one to six, the first of which is a letter (ANSI X3.9-1978, section 2.2).
+    /// None comes next where more letters and digits stand there.
+    pub fn name(&mut self) -> Result<Name, Unread>
+        ensures value { Reads (spec.name self.old) result self.new }
+        ensures shorter { length self.new ≤ length self.old }
+    {
+        let (text, rest) = self.rest.split_at(alphanumerics(self.rest));
+        match Name::new(text) {
+            Some(name) => {
+                self.rest = rest;
+                Ok(name)
+            }
+            None => Err(Unread::Unspelled),
+        }
+    }
+}
+
+/// How many letters and digits a text begins with.
+fn alphanumerics(text: &[u8]) -> usize
+    ensures value { result ≡ spec.alphanumerics text.now }
+    ensures within { result ≤ length text.now }
+{
+    text.iter()
+        .take_while(|byte| is_alphanumeric(**byte))
+        .count()
+}
+
+/// Whether a byte is a letter or a digit.
+fn is_alphanumeric(byte: u8) -> bool
+    ensures { result ≡ is_alphanumeric byte }
+{
+    byte.is_ascii_uppercase() || byte.is_ascii_digit()
 }
 
 /// How many digits a text begins with.

@@ -2,12 +2,14 @@
 ghost use Rattle.std.specs.Prelude.{◌≡◌, ◌≤◌, length, IfOk};
 ghost use Rattle.first_form.specs.Read.{Reads};
 ghost use Rattle.first_form.specs.Reading as spec;
+ghost use Rattle.first_form.specs.Trees.{variable, element};
 
 use crate::reader::Reader;
 use crate::unread::Unread;
-use f77_ast::expr::{Expr, Op};
+use f77_ast::expr::{Expr, Op, Ref};
+use f77_ast::name::Name;
 use hyb_base::no_memory::NoMemory;
-use sqlite_items::Boxed;
+use sqlite_items::{Boxed, Items};
 use std::alloc::Global;
 
 /// An operator before its operand.
@@ -38,14 +40,66 @@ fn signed(alloc: Global, sign: Option<Op>, term: Expr) -> Result<Expr, NoMemory>
     }
 }
 
-/// primary: digits of value at most 2^63 - 1; `(` sum `)`
+/// A name alone.
+fn variable(name: Name) -> Ref
+    ensures { result ≡ variable name }
+{
+    Ref {
+        name,
+        args: None,
+        part: None,
+    }
+}
+
+/// A name with one subscript.
+fn element(alloc: Global, name: Name, subscript: Expr) -> Result<Ref, NoMemory>
+    ensures { IfOk result (λ r. r ≡ element name subscript) }
+{
+    let mut subscripts = Items::new(alloc);
+    subscripts.push(subscript)?;
+    Ok(Ref {
+        name,
+        args: Some(subscripts),
+        part: None,
+    })
+}
+
+/// reference: name; name `(` sum `)`
+#[cycle(sums)]
+pub fn reference(alloc: Global, reader: &mut Reader<'_>, depth: usize) -> Result<Ref, Unread>
+    ensures value { Reads (spec.reference (spec.sum_within depth) reader.old) result reader.new }
+    ensures shorter { length reader.new ≤ length reader.old }
+{
+    let name = reader.name()?;
+    if !reader.eat(b'(') {
+        return Ok(variable(name));
+    }
+    let subscript = sum_within(alloc, reader, depth)?;
+    reader.expect(b')')?;
+    Ok(element(alloc, name, subscript)?)
+}
+
+/// operand: digits of value at most 2^63 - 1; reference
+#[cycle(sums)]
+fn operand(alloc: Global, reader: &mut Reader<'_>, depth: usize) -> Result<Expr, Unread>
+    ensures value { Reads (spec.operand (spec.sum_within depth) reader.old) result reader.new }
+    ensures shorter { length reader.new ≤ length reader.old }
+{
+    if reader.sees_digit() {
+        return reader.number();
+    }
+    let found = reference(alloc, reader, depth)?;
+    Ok(Expr::Ref(found))
+}
+
+/// primary: operand; `(` sum `)`
 #[cycle(sums)]
 fn primary(alloc: Global, reader: &mut Reader<'_>, depth: usize) -> Result<Expr, Unread>
     ensures value { Reads (spec.primary (spec.sum_within depth) reader.old) result reader.new }
     ensures shorter { length reader.new ≤ length reader.old }
 {
     if !reader.eat(b'(') {
-        return reader.number();
+        return operand(alloc, reader, depth);
     }
     let inner = sum_within(alloc, reader, depth)?;
     reader.expect(b')')?;

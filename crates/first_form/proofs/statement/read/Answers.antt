@@ -7,10 +7,14 @@ pub returns-then-eq : goal.returns-then-eq
 unfolding statement_of
 returns-then-eq c = first_of (search rules, grind (arith, common_steps))
 
-pub returns-in-Some : goal.returns-in-Some
+pub returns-in-Ok : goal.returns-in-Ok
 unfolding statement_of
-returns-in-Some c = first_of (search rules, grind (arith, common_steps))
+returns-in-Ok c = first_of (search rules, grind (arith, common_steps))
 
-pub returns-in-None : goal.returns-in-None
+pub returns-in-Ok-2 : goal.returns-in-Ok-2
 unfolding statement_of
-returns-in-None c = first_of (search rules, grind (arith, common_steps))
+returns-in-Ok-2 c = first_of (search rules, grind (arith, common_steps))
+
+pub returns-in-Err-Unspelled : goal.returns-in-Err-Unspelled
+unfolding statement_of
+returns-in-Err-Unspelled c = first_of (search rules, grind (arith, common_steps))

@@ -1,8 +1,40 @@
 use Rattle.std.proofs.Common.{rules, arith, ◌≡◌, ◌≤◌, length, ap, sym, ◌∙◌}
 use Rattle.std.proofs.lemmas.Grind.{common_steps}
-use Rattle.first_form.specs.Reading.{primary, term, sum, sum_within, term_operator, sum_operator, sign, next_operator, after_operator}
+use Rattle.first_form.specs.Reading.{reference, operand, primary, term, sum, sum_within, term_operator, sum_operator, sign, next_operator, after_operator}
 use Rattle.first_form.proofs.Turns.{ended, turn_fails, turn_goes, after_within, term_starts, term_missing, sum_starts, sum_missing, no_depth, one_deeper}
 use Rattle.first_form.proofs.sums.+sums.Goals as goal
+
+pub reference-returns-in_err-name-clause-value : goal.reference-returns-in_err-name-clause-value
+unfolding reference
+reference-returns-in_err-name-clause-value t c = first_of (search rules, grind (arith, common_steps))
+
+pub reference-returns-then-not-eat-clause-value : goal.reference-returns-then-not-eat-clause-value
+unfolding reference
+reference-returns-then-not-eat-clause-value t c = first_of (search rules, grind (arith, common_steps))
+
+pub reference-returns-in_err-subscript-clause-value : goal.reference-returns-in_err-subscript-clause-value
+unfolding reference
+reference-returns-in_err-subscript-clause-value t c = first_of (search rules, grind (arith, common_steps))
+
+pub reference-returns-in_err-expect-clause-value : goal.reference-returns-in_err-expect-clause-value
+unfolding reference
+reference-returns-in_err-expect-clause-value t c = first_of (search rules, grind (arith, common_steps))
+
+pub reference-returns-clause-value : goal.reference-returns-clause-value
+unfolding reference
+reference-returns-clause-value t c = first_of (search rules, grind (arith, common_steps))
+
+pub operand-returns-then-sees_digit-clause-value : goal.operand-returns-then-sees_digit-clause-value
+unfolding operand
+operand-returns-then-sees_digit-clause-value t c = first_of (search rules, grind (arith, common_steps))
+
+pub operand-returns-in_err-found-clause-value : goal.operand-returns-in_err-found-clause-value
+unfolding operand
+operand-returns-in_err-found-clause-value t c = first_of (search rules, grind (arith, common_steps))
+
+pub operand-returns-clause-value : goal.operand-returns-clause-value
+unfolding operand
+operand-returns-clause-value t c = first_of (search rules, grind (arith, common_steps))
 
 pub primary-returns-then-not-eat-clause-value : goal.primary-returns-then-not-eat-clause-value
 unfolding primary

@@ -3,17 +3,23 @@ use Rattle.first_form.specs.Reading.{primary, term, sum, sum_within, term_operat
 use Rattle.first_form.proofs.Turns.{Turns}
 use Rattle.first_form.proofs.sums.+sums.Given as goal
 
+abbrev pub decreases-reference : goal.decreases-reference
+decreases-reference l = 6 * l.depth + 1
+
+abbrev pub decreases-operand : goal.decreases-operand
+decreases-operand l = 6 * l.depth + 2
+
 abbrev pub decreases-primary : goal.decreases-primary
-decreases-primary l = 4 * l.depth + 1
+decreases-primary l = 6 * l.depth + 3
 
 abbrev pub decreases-term : goal.decreases-term
-decreases-term l = 4 * l.depth + 2
+decreases-term l = 6 * l.depth + 4
 
 abbrev pub decreases-sum : goal.decreases-sum
-decreases-sum l = 4 * l.depth + 3
+decreases-sum l = 6 * l.depth + 5
 
 abbrev pub decreases-sum_within : goal.decreases-sum_within
-decreases-sum_within l = 4 * l.depth
+decreases-sum_within l = 6 * l.depth
 
 abbrev pub invariant-term-loop-operator : goal.invariant-term-loop-operator
 invariant-term-loop-operator l = record {

@@ -1,0 +1,113 @@
+//! The names that stand in statements (ANSI X3.9-1978, section 2.2).
+ghost use Rattle.std.specs.Prelude.{◌≡◌, ◌++◌, map, OnOk, IfOk};
+ghost use Rattle.std.specs.Option.{option_map};
+ghost use Rattle.std.specs.List.{flat_map};
+ghost use Rattle.first_form.specs.Names as spec;
+
+use f77_ast::expr::{Expr, Ref};
+use f77_ast::name::Name;
+use f77_ast::stmt::{Item, Stmt};
+use hyb_base::list::List;
+use hyb_base::no_memory::NoMemory;
+use sqlite_items::Items;
+use std::alloc::Global;
+
+/// A name in a statement that declares nothing.
+#[derive(Drop)]
+pub struct Mention {
+    /// The name.
+    pub name: Name,
+    /// Whether a subscript follows it.
+    pub subscripted: bool,
+}
+
+/// Names, in the order of the text.
+pub type Mentions = List<Mention>;
+
+/// Adds the names in an expression.
+#[cycle(names)]
+fn names_in(tree: &Expr, into: &mut Mentions) -> Result<(), NoMemory>
+    ensures { OnOk result (into.new ≡ into.old ++ spec.names_in tree.now) }
+{
+    match tree {
+        Expr::Int(_value) => Ok(()),
+        Expr::Truth(_value) => Ok(()),
+        Expr::Chars(_text) => Ok(()),
+        Expr::Ref(found) => names_in_reference(found, into),
+        Expr::Unary(_operator, operand) => names_in(operand.get(), into),
+        Expr::Binary(_operator, left, right) => {
+            names_in(left.get(), into)?;
+            names_in(right.get(), into)
+        }
+        Expr::Paren(inner) => names_in(inner.get(), into),
+    }
+}
+
+/// Adds the names in a reference: its own, and those in its subscripts.
+#[cycle(names)]
+fn names_in_reference(found: &Ref, into: &mut Mentions) -> Result<(), NoMemory>
+    ensures { OnOk result (into.new ≡ into.old ++ spec.names_in_reference found.now) }
+{
+    into.push(Mention {
+        name: found.name.copy(),
+        subscripted: found.args.is_some(),
+    })?;
+    names_in_subscripts(&found.args, into)
+}
+
+/// Adds the names in the subscripts of a reference.
+#[cycle(names)]
+fn names_in_subscripts(args: &Option<Items<Expr>>, into: &mut Mentions) -> Result<(), NoMemory>
+    ensures { OnOk result (into.new ≡ into.old ++ spec.in_subscripts (option_map (map spec.names_in) args.now)) }
+{
+    match args {
+        None => Ok(()),
+        Some(subscripts) => {
+            for subscript in subscripts.as_slice() {
+                names_in(subscript, into)?;
+            }
+            Ok(())
+        }
+    }
+}
+
+/// Adds the names in an item of PRINT.
+fn names_in_item(item: &Item, into: &mut Mentions) -> Result<(), NoMemory>
+    ensures { OnOk result (into.new ≡ into.old ++ spec.names_in_item item.now) }
+{
+    match item {
+        Item::Plain(value) => names_in(value, into),
+        Item::Implied(_items, _control) => Ok(()),
+    }
+}
+
+/// Adds the names in the items of PRINT.
+fn names_in_items(items: &[Item], into: &mut Mentions) -> Result<(), NoMemory>
+    ensures { OnOk result (into.new ≡ into.old ++ flat_map spec.names_in_item items.now) }
+{
+    for item in items {
+        names_in_item(item, into)?;
+    }
+    Ok(())
+}
+
+/// Adds the names in an assignment.
+fn names_in_assignment(target: &Ref, value: &Expr, into: &mut Mentions) -> Result<(), NoMemory>
+    ensures { OnOk result (into.new ≡ into.old ++ (spec.names_in_reference target.now ++ spec.names_in value.now)) }
+{
+    names_in_reference(target, into)?;
+    names_in(value, into)
+}
+
+/// The names that stand in a statement that declares nothing, in the order of its text.
+pub fn mentioned_in(alloc: Global, stmt: &Stmt) -> Result<Mentions, NoMemory>
+    ensures { IfOk result (λ names. names ≡ spec.mentioned_in stmt.now) }
+{
+    let mut names = Mentions::new(alloc);
+    match stmt {
+        Stmt::Assign { target, value } => names_in_assignment(target, value, &mut names)?,
+        Stmt::Print(items) => names_in_items(items.as_slice(), &mut names)?,
+        _ => (),
+    }
+    Ok(names)
+}
