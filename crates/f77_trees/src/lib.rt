@@ -2,3 +2,5 @@
 #![tactic(auto)]
 
 pub mod same;
+#[cfg(test)]
+mod tests;
