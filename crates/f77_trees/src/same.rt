@@ -1,5 +1,6 @@
 //! Which trees are the same: those of the same shape, with the same operators, constants and names at the same places.
-ghost use Rattle.std.specs.Prelude.{◌≡◌, map};
+//! That is equality, as each function here ensures besides.
+ghost use Rattle.std.specs.Prelude.{◌≡◌, ◌↔◌, map, IsTrue};
 ghost use Rattle.std.specs.Option.{option_map};
 ghost use Rattle.f77_trees.specs.Same as spec;
 
@@ -44,8 +45,10 @@ fn op_place(op: Op) -> u8
 }
 
 /// Whether two operators are the same.
+#[tactic(auto, using(crate::proofs::OpLemmas::same_place))]
 fn same_op(a: Op, b: Op) -> bool
-    ensures { result ≡ spec.same_op a b }
+    ensures value { result ≡ spec.same_op a b }
+    ensures same { IsTrue result ↔ (a ≡ b) }
 {
     op_place(a) == op_place(b)
 }
@@ -53,7 +56,8 @@ fn same_op(a: Op, b: Op) -> bool
 /// Whether two expressions are the same.
 #[cycle(same)]
 pub fn same_expr(a: &Expr, b: &Expr) -> bool
-    ensures { result ≡ spec.same_expr a.now b.now }
+    ensures value { result ≡ spec.same_expr a.now b.now }
+    ensures same { IsTrue result ↔ (a.now ≡ b.now) }
 {
     match (a, b) {
         (Expr::Int(x), Expr::Int(y)) => *x == *y,
@@ -72,7 +76,8 @@ pub fn same_expr(a: &Expr, b: &Expr) -> bool
 /// Whether two references are the same: their names, what stands in their parentheses, and their parts.
 #[cycle(same)]
 pub fn same_ref(a: &Ref, b: &Ref) -> bool
-    ensures { result ≡ spec.same_ref a.now b.now }
+    ensures value { result ≡ spec.same_ref a.now b.now }
+    ensures same { IsTrue result ↔ (a.now ≡ b.now) }
 {
     a.name == b.name && same_args(&a.args, &b.args) && same_part(&a.part, &b.part)
 }
@@ -81,7 +86,8 @@ pub fn same_ref(a: &Ref, b: &Ref) -> bool
 #[cycle(same)]
 #[tactic(auto, using(crate::proofs::SameLemmas::unequal_lengths))]
 fn same_args(a: &Option<Items<Expr>>, b: &Option<Items<Expr>>) -> bool
-    ensures { result ≡ spec.same_args (option_map (map spec.same_expr) a.now) b.now }
+    ensures value { result ≡ spec.same_args (option_map (map spec.same_expr) a.now) b.now }
+    ensures same { IsTrue result ↔ (a.now ≡ b.now) }
 {
     match (a, b) {
         (None, None) => true,
@@ -104,7 +110,8 @@ fn same_args(a: &Option<Items<Expr>>, b: &Option<Items<Expr>>) -> bool
 /// Whether the parts of two references are the same.
 #[cycle(same)]
 fn same_part(a: &Option<Boxed<Part>>, b: &Option<Boxed<Part>>) -> bool
-    ensures { result ≡ spec.same_option (option_map spec.same_part a.now) b.now }
+    ensures value { result ≡ spec.same_option (option_map spec.same_part a.now) b.now }
+    ensures same { IsTrue result ↔ (a.now ≡ b.now) }
 {
     match (a, b) {
         (None, None) => true,
@@ -117,7 +124,8 @@ fn same_part(a: &Option<Boxed<Part>>, b: &Option<Boxed<Part>>) -> bool
 /// Whether two bounds of parts are the same.
 #[cycle(same)]
 fn same_bound(a: &Option<Expr>, b: &Option<Expr>) -> bool
-    ensures { result ≡ spec.same_option (option_map spec.same_expr a.now) b.now }
+    ensures value { result ≡ spec.same_option (option_map spec.same_expr a.now) b.now }
+    ensures same { IsTrue result ↔ (a.now ≡ b.now) }
 {
     match (a, b) {
         (None, None) => true,
