@@ -2,6 +2,7 @@ pub mod Accepted
 pub mod Admits
 pub mod Complete
 pub mod Firsts
+pub mod Layouts
 pub mod LineLemmas
 pub mod MemberTurns
 pub mod NameLemmas

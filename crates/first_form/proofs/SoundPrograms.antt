@@ -43,7 +43,7 @@ upper_is None (Some last) e = upper_by (out-Expr last) e
 upper_is None None e = refl
 upper_is (Some low) high e = cc
 
-units_is : (bounds : List Bound) → nat_le 1 (units_of bounds) ≡ true → units_by bounds ≡ units_of bounds
+pub units_is : (bounds : List Bound) → nat_le 1 (units_of bounds) ≡ true → units_by bounds ≡ units_of bounds
 units_is [] e = refl
 units_is (b ∷ []) e = upper_is b.low b.high e
 units_is (b ∷ c ∷ bounds) e = cc
@@ -56,7 +56,7 @@ kept_filter p q (x ∷ xs) e = let h = and_parts (p x) (list_all p xs) e in by (
     by true h r = and_from (p x) (list_all p (filter q xs)) h r
     by false h r = r
 
-kept_firsts : (p : Declarator → Bool) (ds : List Declarator) → list_all p ds ≡ true → list_all p (firsts ds) ≡ true
+pub kept_firsts : (p : Declarator → Bool) (ds : List Declarator) → list_all p ds ≡ true → list_all p (firsts ds) ≡ true
 kept_firsts p [] e = refl
 kept_firsts p (d ∷ ds) e =
     let h = and_parts (p d) (list_all p ds) e in

@@ -35,7 +35,7 @@ declares_once (d ∷ ds) = not (list_any (λ later. is_of later.name d) ds) && d
 abbrev pub has_elements : Declarator → Bool
 has_elements d = nat_le 1 (units_of d.bounds)
 
--- whether a name begins with one of I to N, and so is INTEGER without a declaration (section 2.6)
+-- whether a name begins with one of I to N, and so is INTEGER without a declaration (ANSI X3.9-1978, section 4.1.2)
 abbrev pub begins_integer : List ℕ → Bool
 begins_integer [] = false
 begins_integer (first ∷ rest) = nat_le 73 first && nat_le first 78

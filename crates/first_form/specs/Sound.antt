@@ -1,4 +1,4 @@
--- The form of every program that is accepted so far.
+-- The form of every program that is accepted so far, and of its storage.
 use Rattle.std.specs.Prelude.{◌≡◌, ℕ, ◌<◌, ◌≤◌, ◌^◌, pos, List, [], ◌∷◌, ◌++◌, length, All, Ok}
 use Rattle.f77_ast.specs.declared.expr.Expr.{Expr}
 use Rattle.f77_ast.specs.declared.expr.Expr.TheVariants as expr
@@ -13,6 +13,7 @@ use Rattle.f77_ast.specs.declared.stmt.Item.{Item}
 use Rattle.f77_ast.specs.declared.stmt.Item.TheVariants as item
 use Rattle.f77_ast.specs.declared.stmt.Stmt.{Stmt}
 use Rattle.f77_ast.specs.declared.stmt.Stmt.TheVariants as stmt
+use Rattle.f77_meaning.specs.Storage.{IsLaidOut}
 use Rattle.first_form.specs.Trees.{variable, element, bound_to, declared, integers}
 use Rattle.first_form.specs.FirstForm.{statement_limit, front_of}
 
@@ -77,3 +78,8 @@ pub record IsOfFirstForm (program : Program) : Type 0 where
 -- every accepted program is such a program
 abbrev pub AcceptedProgramsAreOfFirstForm : Type 0
 AcceptedProgramsAreOfFirstForm = (bytes : List ℕ) (program : Program) → front_of bytes ≡ Ok program → IsOfFirstForm program
+
+-- in every accepted program each name stands where those before it end and is a region of its own, and every storage
+-- unit opens as 0
+abbrev pub AcceptedProgramsAreLaidOut : Type 0
+AcceptedProgramsAreLaidOut = (bytes : List ℕ) (program : Program) → front_of bytes ≡ Ok program → IsLaidOut program.layout

@@ -34,7 +34,8 @@ abbrev pub elements : Option ℤ → ℕ
 elements (Some (pos n)) = n
 elements _ = 0
 
--- the storage units of a name with such bounds: one where it is no array, and one for each element of an array (section 2.5)
+-- the storage units of a name with such bounds: one where it is no array, and one for each element of an array
+-- (ANSI X3.9-1978, sections 2.13 and 5.2.5)
 abbrev pub units_of : List Bound → ℕ
 units_of [] = 1
 units_of (bound ∷ bounds) = elements (last_of (bound ∷ bounds))
