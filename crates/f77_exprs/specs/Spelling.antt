@@ -45,13 +45,13 @@ mutual
     -- primary: `(` expr `)` (section 6.1.2.1)
     parentheses : {a : Expr} {s : Text} → Spells whole a s → Spells 0 (expr.Paren a) (40 ∷ (s ++ 41 ∷ []))
     -- factor: primary; term: factor; sum: term; chars: sum; relation: chars; negation: relation; conjunction: negation;
-    -- disjunction: conjunction; expr: disjunction (sections 6.1.2, 6.2.2, 6.3.3 and 6.4.2)
+    -- disjunction: conjunction; expr: disjunction (sections 6.1.2, 6.2.2, 6.3.2, 6.3.4 and 6.4.2)
     lower : {k : ℕ} {a : Expr} {s : Text} → Spells k a s → Spells (suc k) a s
     -- sum: `+` term; `-` term (section 6.1.2.4); negation: `.NOT.` relation (section 6.4.2.2)
     prefixed : (o : Prefix) {a : Expr} {s : Text} → Spells (under o) a s → Spells (suc (under o)) (expr.Unary (prefix_operator o) a) (prefix_spelling o ++ s)
     -- factor: primary `**` factor (section 6.1.2.2); term: term `*` factor; term `/` factor (section 6.1.2.3);
     -- sum: sum `+` term; sum `-` term (section 6.1.2.4); chars: chars `//` sum (section 6.2.2.2);
-    -- relation: chars relop chars (section 6.3.3); conjunction: conjunction `.AND.` negation (section 6.4.2.3);
+    -- relation: chars relop chars (sections 6.3.2 and 6.3.4); conjunction: conjunction `.AND.` negation (section 6.4.2.3);
     -- disjunction: disjunction `.OR.` conjunction (section 6.4.2.4);
     -- expr: expr `.EQV.` disjunction; expr `.NEQV.` disjunction (section 6.4.2.5)
     joined : (o : Infix) {a b : Expr} {s t : Text} → Spells (left_level o) a s → Spells (right_level o) b t → Spells (suc (below o)) (expr.Binary (operator o) a b) (s ++ (spelling o ++ t))

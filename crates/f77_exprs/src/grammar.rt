@@ -222,7 +222,7 @@ fn power(alloc: Global, reader: &mut Reader<'_>, depth: usize, left: Expr) -> Re
     }
 }
 
-/// relation: chars; chars relop chars, after its first chars (ANSI X3.9-1978, section 6.3.3).
+/// relation: chars; chars relop chars, after its first chars (ANSI X3.9-1978, sections 6.3.2 and 6.3.4).
 #[cycle(grammar)]
 fn relation(
     alloc: Global,

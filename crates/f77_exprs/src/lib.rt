@@ -9,6 +9,8 @@ pub mod grammar;
 pub mod laws;
 mod operand;
 pub mod operators;
-mod outside;
+pub mod outside;
 pub mod reader;
+#[cfg(test)]
+mod tests;
 pub mod unread;
