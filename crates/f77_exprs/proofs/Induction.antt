@@ -1,5 +1,5 @@
 -- What is spelled is read, and no text spells two trees.
-use Rattle.std.proofs.Common.{◌≡◌, ℕ, suc, ◌≤◌, List, [], ◌∷◌, ◌++◌, length, Option, Some, None, Ok, Err, refl, sym, ap, ◌∙◌, subst, arith}
+use Rattle.std.proofs.Common.{◌<◌, ◌≡◌, ℕ, suc, ◌≤◌, List, [], ◌∷◌, ◌++◌, length, Option, Some, None, Ok, Err, refl, sym, ap, ◌∙◌, subst, arith}
 use Rattle.std.proofs.lemmas.List.{append_assoc, append-nil}
 use Rattle.f77_ast.specs.declared.expr.Expr.{Expr}
 use Rattle.f77_ast.specs.declared.expr.Part.{Part}
@@ -15,12 +15,12 @@ use Rattle.f77_exprs.specs.Answer.{Answers}
 use Rattle.f77_exprs.specs.Cause.{refusal_of}
 use Rattle.f77_exprs.proofs.Sound.{read_is_spelled}
 use Rattle.f77_exprs.specs.Reading.{alphanumerics, expr_within, all_of, expr_of}
-use Rattle.f77_exprs.proofs.Complete.{Starts, Bare, Complete, level_read, lower_step, prefix_step, joined_step, ending, whole_read}
+use Rattle.f77_exprs.proofs.Complete.{Free, Starts, Bare, Complete, level_read, lower_step, prefix_step, joined_step, ending, whole_read}
 use Rattle.f77_exprs.proofs.Primaries.{CompleteBound, CompletePart, CompleteAll, CompleteArguments, number_step, truth_step, falsehood_step, constant_step, parentheses_step, left_out_step, given_step, no_part_step, part_step, last_step, more_step, no_list_step, empty_list_step, list_step, reference_step, letter_starts, digit_starts, letter_bare, digit_bare}
 
 -- ---- what a spelling begins with
 
-starts : {k : ℕ} {a : Expr} {s : Text} → Spells k a s → (r : Text) → Starts (s ++ r)
+pub starts : {k : ℕ} {a : Expr} {s : Text} → Spells k a s → (r : Text) → Starts (s ++ r)
 starts (spelled.number s all fits) r = digit_starts s r all
 starts truth r = (refl, refl, refl, refl)
 starts falsehood r = (refl, refl, refl, refl)
@@ -58,7 +58,7 @@ left_within between.Or = omega arith
 left_within between.Eqv = omega arith
 left_within between.Neqv = omega arith
 
-bare : {k : ℕ} {a : Expr} {s : Text} → Spells k a s → (r : Text) → Bare k (s ++ r)
+pub bare : {k : ℕ} {a : Expr} {s : Text} → Spells k a s → (r : Text) → Bare k (s ++ r)
 bare (spelled.number s all fits) r = digit_bare s r all
 bare truth r = ((λ lt. refl), (λ lt. refl), (λ lt. refl))
 bare falsehood r = ((λ lt. refl), (λ lt. refl), (λ lt. refl))
@@ -84,7 +84,7 @@ stops (list h) g r e = refl
 -- ---- the induction
 
 mutual
-  complete : {k : ℕ} {a : Expr} {s : Text} → Spells k a s → Complete k a s
+  pub complete : {k : ℕ} {a : Expr} {s : Text} → Spells k a s → Complete k a s
   complete (spelled.number s all fits) = number_step s all fits
   complete truth = truth_step
   complete falsehood = falsehood_step
@@ -111,6 +111,10 @@ mutual
   complete_bound : {low : Option Expr} {s : Text} → SpellsBound low s → CompleteBound low s
   complete_bound left_out = left_out_step
   complete_bound (given h) = given_step _ _ (starts h) (complete h)
+
+-- what is spelled as an expr is read, before any rest that may follow
+pub expr_is_read : (a : Expr) (s : Text) → Spells whole a s → (depth : ℕ) → length s < depth → (r : Text) → Free whole r → expr_within depth (s ++ r) ≡ Some (a, r)
+expr_is_read a s h = whole_read a s (complete h)
 
 pub spelled_is_read : (text : Text) (a : Expr) → Spells whole a text → expr_of text ≡ Some a
 unfolding expr_of

@@ -28,12 +28,12 @@ Holds P None = Unit {0}
 abbrev pub Begins : ℕ → Text → Expr → Text → Type 0
 Begins k i a r = (s : Text) × (i ≡ s ++ r) × Spells k a s
 
-holds_bind : {A B : Type 0} (o : Outcome A) (f : A → Parser B) (P : A → Text → Type 0) (Q : B → Text → Type 0)
+pub holds_bind : {A B : Type 0} (o : Outcome A) (f : A → Parser B) (P : A → Text → Type 0) (Q : B → Text → Type 0)
     → Holds P o → ((a : A) (j : Text) → P a j → Holds Q (f a j)) → Holds Q (and_then o f)
 holds_bind (Some p) f P Q h k = k p.0 p.1 h
 holds_bind None f P Q h k = tt
 
-holds_weak : {A : Type 0} (o : Outcome A) (P Q : A → Text → Type 0) → Holds P o → ((a : A) (j : Text) → P a j → Q a j) → Holds Q o
+pub holds_weak : {A : Type 0} (o : Outcome A) (P Q : A → Text → Type 0) → Holds P o → ((a : A) (j : Text) → P a j → Q a j) → Holds Q o
 holds_weak (Some p) P Q h k = k p.0 p.1 h
 holds_weak None P Q h k = tt
 
@@ -44,7 +44,7 @@ eats_by : {B : Type 0} (b c : ℕ) (i : Text) (f : Bool → Parser B) (Q : B →
 eats_by b c i f Q true same good bad = good i (ap (λ x. x ∷ i) (same refl))
 eats_by b c i f Q false same good bad = bad
 
-eats : {B : Type 0} (b : ℕ) (i : Text) (f : Bool → Parser B) (Q : B → Text → Type 0)
+pub eats : {B : Type 0} (b : ℕ) (i : Text) (f : Bool → Parser B) (Q : B → Text → Type 0)
     → ((j : Text) → i ≡ b ∷ j → Holds Q (f true j)) → Holds Q (f false i) → Holds Q (and_then (eat b i) f)
 eats b [] f Q good bad = bad
 eats b (c ∷ i) f Q good bad = eats_by b c i f Q (c == b) (eqb-true c b) good bad
@@ -53,11 +53,11 @@ expects_by : (b c : ℕ) (i : Text) (t : Bool) → (t ≡ true → c ≡ b) → 
 expects_by b c i true same = ap (λ x. x ∷ i) (same refl)
 expects_by b c i false same = tt
 
-expects : (b : ℕ) (i : Text) → Holds {A = Unit {0}} (λ u j. i ≡ b ∷ j) (expect b i)
+pub expects : (b : ℕ) (i : Text) → Holds {A = Unit {0}} (λ u j. i ≡ b ∷ j) (expect b i)
 expects b [] = tt
 expects b (c ∷ i) = expects_by b c i (c == b) (eqb-true c b)
 
-eats_word : {B : Type 0} (w i : Text) (f : Bool → Parser B) (Q : B → Text → Type 0)
+pub eats_word : {B : Type 0} (w i : Text) (f : Bool → Parser B) (Q : B → Text → Type 0)
     → ((j : Text) → i ≡ w ++ j → Holds Q (f true j)) → Holds Q (f false i) → Holds Q (and_then (eat_word w i) f)
 eats_word w i f Q good bad = by (begins w i) refl
   where
@@ -147,11 +147,11 @@ sides s o t r i j c d = ap (λ x. s ++ x) (c ∙ ap (λ x. o ++ x) d ∙ sym (ap
 
 -- ---- constants and names
 
-abbrev Sound : Parser Expr → ℕ → Type 0
+abbrev pub Sound : Parser Expr → ℕ → Type 0
 Sound p k = (i : Text) → Holds (Begins k i) (p i)
 
 -- a tree that is there is spelled, and where none is there the text is left
-abbrev Offers : ℕ → Text → Option Expr → Text → Type 0
+abbrev pub Offers : ℕ → Text → Option Expr → Text → Type 0
 Offers k i None r = i ≡ r
 Offers k i (Some a) r = Begins k i a r
 
@@ -210,7 +210,7 @@ constant_sound i = holds_bind (characters [] i) _ (Closes [] i) (λ bytes r. (0 
 quoted : (i k d r : Text) → i ≡ 39 ∷ k → k ≡ d ++ 39 ∷ r → i ≡ (39 ∷ (d ++ 39 ∷ [])) ++ r
 quoted i k d r c b = c ∙ ap (λ x. 39 ∷ x) (b ∙ sym (append_assoc d (39 ∷ []) r))
 
-literal_sound : (i : Text) → Holds (Offers 0 i) (literal i)
+pub literal_sound : (i : Text) → Holds (Offers 0 i) (literal i)
 unfolding literal
 literal_sound i = eats 39 i (λ quote. if quote then (constant >>= (λ bytes. pure (Some (expr.Chars bytes)))) else (eat_word (codes ".TRUE.") >>= (λ yes. if yes then pure (Some (expr.Truth true)) else (eat_word (codes ".FALSE.") >>= (λ untrue. if untrue then pure (Some (expr.Truth false)) else number))))) (Offers 0 i)
     (λ k c. holds_bind (constant k) _ (λ bytes r. (0 < length bytes) × (k ≡ doubled bytes ++ 39 ∷ r)) (Offers 0 i) (constant_sound k) (λ bytes r h. (39 ∷ (doubled bytes ++ 39 ∷ []), quoted i k (doubled bytes) r c h.1, spelled.constant bytes h.0)))
@@ -220,7 +220,7 @@ literal_sound i = eats 39 i (λ quote. if quote then (constant >>= (λ bytes. pu
     (λ k c. (codes ".FALSE.", c, falsehood))
     (number_sound i)))
 
-name_sound : (i : Text) → Holds (λ n r. (i ≡ n ++ r) × IsName n) (name i)
+pub name_sound : (i : Text) → Holds (λ n r. (i ≡ n ++ r) × IsName n) (name i)
 unfolding name
 name_sound i = by (is_name (take (alphanumerics i) i)) refl
   where
@@ -396,7 +396,8 @@ module _ (inner : Parser Expr) (sound : Sound inner whole) where
       (rest_sound k (grouping (suc k)) refl (level_sound k) a p.0 q p.2)
       (λ x r w. (w.0, p.1 ∙ w.1, w.2))))
 
-within_sound : (depth : ℕ) → Sound (expr_within depth) whole
+-- what is read as an expr before a rest is spelled so
+pub within_sound : (depth : ℕ) → Sound (expr_within depth) whole
 unfolding expr_within
 within_sound zero i = tt
 within_sound (suc depth) i = level_sound (expr_within depth) (within_sound depth) 9 i

@@ -81,12 +81,12 @@ is_run_with_exponent before i = nat_lt 0 (length (number_run before i)) && is_ex
 abbrev pub is_long_name : ℕ → Text → Bool
 is_long_name before i = not (is_alphanumeric before) && sees_letter i && nat_lt 6 (alphanumerics i)
 
--- what makes a cause
+-- what makes a cause; nothing makes the one that is left
 abbrev pub makes : Cause → ℕ → Text → Bool
 makes RealLiteral before i = is_point_at_digit before i || is_run_with_exponent before i
 makes LiteralRange before i = nat_le (2 ^ 63) (value_of (number_run before i))
 makes NameTooLong before i = is_long_name before i
-makes NoExpression before i = true
+makes NoExpression before i = false
 
 -- whether a test holds at some place of a text, behind a byte
 abbrev pub somewhere : (ℕ → Text → Bool) → ℕ → Text → Bool

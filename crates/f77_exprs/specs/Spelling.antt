@@ -1,5 +1,8 @@
 -- Which texts an expression has (ANSI X3.9-1978, section 6). A text has no blanks and no lower-case letters outside
 -- character constants.
+--
+-- Levels are counted from the tightest: 0 primary, 1 factor, 2 term, 3 sum, 4 chars, 5 relation, 6 negation,
+-- 7 conjunction, 8 disjunction, 9 expr.
 use Rattle.std.specs.Prelude.{ℕ, suc, ◌==◌, ◌^◌, ◌<◌, pos, true, false, if◌then◌else◌, List, [], ◌∷◌, ◌++◌, length, codes, Option, Some, None}
 use Rattle.hyb_base.specs.Decimal.{IsDigits, value_of}
 use Rattle.f77_ast.specs.declared.expr.Expr.{Expr}
@@ -24,7 +27,7 @@ reference_of name arguments part = expr.Ref (roll-Ref (record { name = name; arg
 abbrev pub part_of : Option Expr → Option Expr → Part
 part_of low high = roll-Part (record { low = low; high = high })
 
--- the outermost level
+-- the level of expr
 abbrev pub whole : ℕ
 whole = 9
 

@@ -115,7 +115,8 @@ fn is_long_name(before: u8, text: &[u8]) -> bool
     !is_alphanumeric(before) && sees_letter(text) && alphanumerics(text) > 6
 }
 
-/// Whether a cause is made at a place: by the byte before it, and by the text from there on.
+/// Whether a cause is made at a place, by the byte before it and by the text from there on. Nothing makes the one that
+/// is left.
 fn makes(cause: Cause, before: u8, text: &[u8]) -> bool
     ensures { result ≡ spec.makes cause before text.now }
 {
@@ -125,7 +126,7 @@ fn makes(cause: Cause, before: u8, text: &[u8]) -> bool
         }
         Cause::LiteralRange => is_out_of_range(before, text),
         Cause::NameTooLong => is_long_name(before, text),
-        Cause::NoExpression => true,
+        Cause::NoExpression => false,
     }
 }
 

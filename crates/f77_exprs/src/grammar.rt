@@ -69,7 +69,7 @@ fn bound(
     Ok(Some(found))
 }
 
-/// ref: `[` `(` [expr] `:` [expr] `)` `]` (ANSI X3.9-1978, section 5.7.1).
+/// ref: an optional `(` [expr] `:` [expr] `)` (ANSI X3.9-1978, section 5.7.1).
 #[cycle(grammar)]
 fn substring(
     alloc: Global,
@@ -107,7 +107,7 @@ fn arguments(
     Ok(found)
 }
 
-/// ref: a list of none or more expr, which is read, and then `[` `(` [expr] `:` [expr] `)` `]`.
+/// ref: a list of none or more expr, which is read, and then an optional `(` [expr] `:` [expr] `)`.
 #[cycle(grammar)]
 fn with_part(
     alloc: Global,

@@ -2,6 +2,10 @@
 
 use crate::cause::cause_of;
 use crate::expr::expr;
+use crate::grammar::expr_within;
+use crate::outside::outside;
+use crate::reader::Reader;
+use crate::unread::Unread;
 use f77_ast::expr::{Expr, Op, Part, Ref};
 use f77_ast::refusal::FrontError;
 use hyb_base::bytes::Bytes;
@@ -215,6 +219,38 @@ fn texts_are_refused_by_their_causes(rt: HostRuntime) -> Result<(), Fail> {
     check_refused(&rt, rt.alloc(), b"0:12".as_slice(), REAL_LITERAL)?;
     check_refused(&rt, rt.alloc(), b"0:13".as_slice(), NAME_TOO_LONG)?;
     assert!(rt; cause_of(rt.alloc(), b"1".as_slice())?.code() == 10);
+    let plain = outside(rt.alloc(), b"A'B.5'.EQ.1..OR.2".as_slice())?;
+    assert!(rt; plain.as_slice() == b"A         1.    2".as_slice());
+    Ok(())
+}
+
+/// Shows what is read of the front of a text, and then the text behind it; nothing where it begins with no expr.
+fn front(alloc: Global, text: &[u8], depth: usize) -> Result<Bytes, NoMemory> {
+    let mut into = Bytes::new(alloc);
+    let mut reader = Reader::new(text);
+    match expr_within(alloc, &mut reader, depth) {
+        Ok(tree) => {
+            show(&tree, &mut into)?;
+            for _byte in text {
+                if let Some(byte) = reader.next_byte() {
+                    into.push(byte)?;
+                }
+            }
+        }
+        Err(Unread::Unspelled) => {}
+        Err(Unread::NoMemory) => return Err(NoMemory),
+    }
+    Ok(into)
+}
+
+#[test]
+fn an_expr_is_read_before_a_rest(rt: HostRuntime) -> Result<(), Fail> {
+    let rest = front(rt.alloc(), b"A+1=B".as_slice(), 1)?;
+    assert!(rt; rest.as_slice() == b"+ A 1=B".as_slice());
+    let shallow = front(rt.alloc(), b"((1)),2".as_slice(), 2)?;
+    assert!(rt; shallow.as_slice() == b"".as_slice());
+    let deep = front(rt.alloc(), b"((1)),2".as_slice(), 3)?;
+    assert!(rt; deep.as_slice() == b"((1)),2".as_slice());
     Ok(())
 }
 
