@@ -1,5 +1,5 @@
 -- Why a text spells no expression: by what stands in it outside character constants and dotted words.
-use Rattle.std.specs.Prelude.{ℕ, ◌-◌, ◌^◌, Bool, true, false, not, ◌&&◌, ◌||◌, ◌==◌, nat_le, nat_lt, if◌then◌else◌, List, [], ◌∷◌, length, take, drop, codes}
+use Rattle.std.specs.Prelude.{ℕ, ◌-◌, ◌^◌, Bool, false, not, ◌&&◌, ◌||◌, ◌==◌, nat_le, nat_lt, if◌then◌else◌, List, [], ◌∷◌, length, take, drop, codes}
 use Rattle.hyb_base.specs.Decimal.{value_of}
 use Rattle.f77_ast.specs.Name.{is_letter, is_digit, is_alphanumeric}
 use Rattle.f77_ast.specs.declared.refusal.Refusal.{Refusal}

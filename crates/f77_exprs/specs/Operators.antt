@@ -155,3 +155,11 @@ is_before o i = begins (prefix_spelling o) i
 abbrev pub first_passing : {X : Type 0} → (X → Text → Bool) → List X → Text → Option X
 first_passing test [] i = None
 first_passing test (x ∷ xs) i = if test x i then Some x else first_passing test xs i
+
+-- the operator of a level that comes next between two operands
+abbrev pub infix_at : ℕ → Text → Option Infix
+infix_at k i = first_passing is_here (infixes k) i
+
+-- the operator that comes next at the head of a level
+abbrev pub prefix_at : ℕ → Text → Option Prefix
+prefix_at k i = first_passing is_before (prefixes k) i

@@ -1,5 +1,5 @@
 -- How an expression is read from its text: a function for each rule, which takes what it reads from the front of a text.
-use Rattle.std.specs.Prelude.{ℕ, zero, suc, ◌^◌, pos, Bool, true, false, ◌&&◌, ◌==◌, nat_lt, if◌then◌else◌, List, [], ◌∷◌, ◌++◌, length, take, drop, codes, Option, Some, None}
+use Rattle.std.specs.Prelude.{ℕ, zero, suc, ◌+◌, ◌^◌, pos, Bool, true, false, ◌&&◌, ◌==◌, nat_lt, if◌then◌else◌, List, [], ◌∷◌, ◌++◌, length, take, drop, codes, Option, Some, None}
 use Rattle.std.specs.List.{prefix_len}
 use Rattle.std.specs.Char.{is_ascii_digit}
 use Rattle.hyb_base.specs.Decimal.{value_of}
@@ -9,7 +9,7 @@ use Rattle.f77_ast.specs.declared.expr.Part.{Part}
 use Rattle.f77_ast.specs.Name.{is_alphanumeric, is_name}
 use Rattle.f77_exprs.specs.declared.operators.Infix.{Infix}
 use Rattle.f77_exprs.specs.declared.operators.Prefix.{Prefix}
-use Rattle.f77_exprs.specs.Operators.{Text, operator, spelling, prefix_operator, prefix_spelling, infixes, prefixes, Grouping, to_left, to_right, once, grouping, begins, is_here, is_before, first_passing}
+use Rattle.f77_exprs.specs.Operators.{Text, operator, spelling, prefix_operator, prefix_spelling, infix_at, prefix_at, Grouping, to_left, to_right, once, grouping, begins}
 use Rattle.f77_exprs.specs.Spelling.{reference_of, part_of}
 
 -- what is read, and the text after it; none where the text doesn't begin with what is sought
@@ -82,13 +82,21 @@ abbrev pub skip : {X : Type 0} → (X → Text) → Option X → Text → Text
 skip f None i = i
 skip f (Some x) i = drop (length (f x)) i
 
--- takes the operator of a level between two operands, where one comes next
-abbrev pub next_infix : ℕ → Parser (Option Infix)
-next_infix k = λ i. Some (first_passing is_here (infixes k) i, skip spelling (first_passing is_here (infixes k) i) i)
+-- the text after the operator of a level between two operands, where one comes next
+abbrev pub after_infix : ℕ → Text → Text
+after_infix k i = skip spelling (infix_at k i) i
 
--- takes the operator at the head of a level, where one comes next
+-- takes that operator, where one comes next
+abbrev pub next_infix : ℕ → Parser (Option Infix)
+next_infix k = λ i. Some (infix_at k i, after_infix k i)
+
+-- the text after the operator at the head of a level, where one comes next
+abbrev pub after_prefix : ℕ → Text → Text
+after_prefix k i = skip prefix_spelling (prefix_at k i) i
+
+-- takes that operator, where one comes next
 abbrev pub next_prefix : ℕ → Parser (Option Prefix)
-next_prefix k = λ i. Some (first_passing is_before (prefixes k) i, skip prefix_spelling (first_passing is_before (prefixes k) i) i)
+next_prefix k = λ i. Some (prefix_at k i, after_prefix k i)
 
 -- an operand behind its operator, where it has one
 abbrev pub prefixed : Option Prefix → Expr → Expr
@@ -219,6 +227,18 @@ module _ (inner : Parser Expr) where
 unfoldable pub expr_within : ℕ → Parser Expr
 expr_within zero = refuse
 expr_within (suc depth) = level (expr_within depth) 9
+
+-- a level of the grammar, whose parentheses nest less deep than this
+abbrev pub level_within : ℕ → ℕ → Parser Expr
+level_within depth k = level (expr_within depth) k
+
+-- what stands behind its first operand at the level above `below`
+abbrev pub rest_within : ℕ → ℕ → Expr → Parser Expr
+rest_within depth below first = rest_of (grouping (below + 1)) (level_within depth below) (below + 1) first
+
+-- what stands behind the first primary of a factor, in so many turns at most
+abbrev pub power_within : ℕ → ℕ → Expr → Parser Expr
+power_within depth turns left = power (level_within depth 0) 1 turns left
 
 -- the tree of an outcome after which no text is left
 abbrev pub all_of : Outcome Expr → Option Expr

@@ -209,7 +209,7 @@ fn primary(alloc: Global, reader: &mut Reader<'_>, depth: usize) -> Result<Expr,
 /// factor: primary; primary `**` factor, after its first primary (ANSI X3.9-1978, section 6.1.2.2).
 #[cycle(grammar)]
 fn power(alloc: Global, reader: &mut Reader<'_>, depth: usize, left: Expr) -> Result<Expr, Unread>
-    ensures value { (turns : ℕ) → length reader.old ≤ turns → Reads (spec.power (spec.level (spec.expr_within depth) 0) 1 turns left reader.old) result reader.new }
+    ensures value { (turns : ℕ) → length reader.old ≤ turns → Reads (spec.power_within depth turns left reader.old) result reader.new }
     ensures within { length reader.new ≤ length reader.old }
 {
     match reader.take_infix(1) {
@@ -230,7 +230,7 @@ fn relation(
     depth: usize,
     left: Expr,
 ) -> Result<Expr, Unread>
-    ensures value { Reads (spec.one_more (spec.level (spec.expr_within depth) 4) 5 left reader.old) result reader.new }
+    ensures value { Reads (spec.one_more (spec.level_within depth 4) 5 left reader.old) result reader.new }
     ensures within { length reader.new ≤ length reader.old }
 {
     match reader.take_infix(5) {
@@ -253,7 +253,7 @@ fn chain(
     first: Expr,
 ) -> Result<Expr, Unread>
     requires { below ≤ 8 }
-    ensures value { Reads (spec.rest_of operators.to_left (spec.level (spec.expr_within depth) below) (below + 1) first reader.old) result reader.new }
+    ensures value { Reads (spec.rest_of operators.to_left (spec.level_within depth below) (below + 1) first reader.old) result reader.new }
     ensures within { length reader.new ≤ length reader.old }
 {
     let mut left = first;
@@ -274,7 +274,7 @@ fn rest_of(
     first: Expr,
 ) -> Result<Expr, Unread>
     requires { below ≤ 8 }
-    ensures value { Reads (spec.rest_of (operators.grouping (below + 1)) (spec.level (spec.expr_within depth) below) (below + 1) first reader.old) result reader.new }
+    ensures value { Reads (spec.rest_within depth below first reader.old) result reader.new }
     ensures within { length reader.new ≤ length reader.old }
 {
     match below {
@@ -292,7 +292,7 @@ fn rest_of(
 #[cycle(grammar)]
 fn level(alloc: Global, reader: &mut Reader<'_>, depth: usize, top: usize) -> Result<Expr, Unread>
     requires { top ≤ 9 }
-    ensures value { Reads (spec.level (spec.expr_within depth) top reader.old) result reader.new }
+    ensures value { Reads (spec.level_within depth top reader.old) result reader.new }
     ensures within { length reader.new ≤ length reader.old }
 {
     let heads = reader.take_heads(top);

@@ -162,7 +162,7 @@ fn first_here(operators: &[Infix], text: &[u8]) -> Option<Infix>
 
 /// The operator of a level that comes next.
 pub fn infix_at(level: usize, text: &[u8]) -> Option<Infix>
-    ensures { result ≡ spec.first_passing spec.is_here (spec.infixes level) text.now }
+    ensures { result ≡ spec.infix_at level text.now }
 {
     match level {
         1 => first_here(&[Infix::Pow], text),
@@ -196,7 +196,7 @@ fn is_before(operator: Prefix, text: &[u8]) -> bool
 
 /// The operator before an operand that comes next at the head of a level.
 pub fn prefix_at(level: usize, text: &[u8]) -> Option<Prefix>
-    ensures { result ≡ spec.first_passing spec.is_before (spec.prefixes level) text.now }
+    ensures { result ≡ spec.prefix_at level text.now }
 {
     match level {
         3 if is_before(Prefix::Plus, text) => Some(Prefix::Plus),

@@ -123,8 +123,8 @@ impl<'a> Reader<'a> {
 
     /// Takes the operator of a level between two operands, where one comes next.
     pub fn take_infix(&mut self, level: usize) -> Option<Infix>
-        ensures found { result ≡ operators.first_passing operators.is_here (operators.infixes level) self.old }
-        ensures after { self.new ≡ spec.skip operators.spelling (operators.first_passing operators.is_here (operators.infixes level) self.old) self.old }
+        ensures found { result ≡ operators.infix_at level self.old }
+        ensures after { self.new ≡ spec.after_infix level self.old }
         ensures within { length self.new ≤ length self.old }
         ensures shorter { OnSome result (length self.new < length self.old) }
     {
@@ -137,8 +137,8 @@ impl<'a> Reader<'a> {
 
     /// Takes the operator at the head of a level, where one comes next.
     pub fn take_prefix(&mut self, level: usize) -> Option<Prefix>
-        ensures found { result ≡ operators.first_passing operators.is_before (operators.prefixes level) self.old }
-        ensures after { self.new ≡ spec.skip operators.prefix_spelling (operators.first_passing operators.is_before (operators.prefixes level) self.old) self.old }
+        ensures found { result ≡ operators.prefix_at level self.old }
+        ensures after { self.new ≡ spec.after_prefix level self.old }
         ensures within { length self.new ≤ length self.old }
     {
         let found = prefix_at(level, self.rest);
