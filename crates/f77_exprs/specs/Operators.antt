@@ -75,26 +75,29 @@ below between.Neqv = 8
 pub data Grouping : Type 0 where
   to_left to_right once : Grouping
 
+-- how each level groups: factor to the right, relation once, all others to the left
 abbrev pub grouping : ℕ → Grouping
 grouping (suc zero) = to_right
 grouping (suc (suc (suc (suc (suc zero))))) = once
 grouping _ = to_left
 
--- the level of what stands on the left of an operator: its own where it groups to the left, else the one under it
+-- the level of what stands on the left of an operator, whose own is above k: its own where it groups to the left, else k
 abbrev pub left_of : Grouping → ℕ → ℕ
 left_of to_left k = suc k
 left_of to_right k = k
 left_of once k = k
 
--- the level of what stands on its right: its own where it groups to the right, else the one under it
+-- the level of what stands on its right: its own where it groups to the right, else k
 abbrev pub right_of : Grouping → ℕ → ℕ
 right_of to_left k = k
 right_of to_right k = suc k
 right_of once k = k
 
+-- the level of what stands on the left of each operator
 abbrev pub left_level : Infix → ℕ
 left_level o = left_of (grouping (suc (below o))) (below o)
 
+-- the level of what stands on the right of each operator
 abbrev pub right_level : Infix → ℕ
 right_level o = right_of (grouping (suc (below o))) (below o)
 

@@ -16,6 +16,7 @@ use Rattle.f77_exprs.specs.Spelling.{reference_of, part_of}
 abbrev pub Outcome : Type 0 → Type 0
 Outcome A = Option (A × Text)
 
+-- what reads from the front of a text
 abbrev pub Parser : Type 0 → Type 0
 Parser A = Text → Outcome A
 
@@ -117,6 +118,7 @@ digits i = prefix_len is_ascii_digit i
 abbrev pub is_number : Text → Bool
 is_number s = nat_lt 0 (length s) && nat_lt (value_of s) (2 ^ 63)
 
+-- what is read at digits: none where they aren't a number
 abbrev pub number_by : Text → Text → Outcome (Option Expr)
 number_by s rest = if is_number s then Some (Some (expr.Int (pos (value_of s))), rest) else None
 
@@ -145,6 +147,7 @@ literal = eat 39 >>= (λ quote. if quote then (constant >>= (λ bytes. pure (Som
 abbrev pub alphanumerics : Text → ℕ
 alphanumerics i = prefix_len is_alphanumeric i
 
+-- what is read at letters and digits: none where they aren't a name
 abbrev pub name_by : Text → Text → Outcome Text
 name_by s rest = if is_name s then Some (s, rest) else None
 

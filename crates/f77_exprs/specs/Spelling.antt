@@ -61,23 +61,32 @@ mutual
 
   -- what stands behind a name: nothing, or `(` list of none or more expr `)`
   pub data SpellsArguments : Option (List Expr) → Text → Type 0 where
+    -- ref: name (section 2.2)
     no_list : SpellsArguments None []
+    -- ref: name with `(` list of no expr `)` (section 15.2)
     empty_list : SpellsArguments (Some []) (40 ∷ 41 ∷ [])
+    -- ref: name with `(` list of one or more expr `)` (sections 5.3 and 15.2)
     list : {all : List Expr} {s : Text} → SpellsAll all s → SpellsArguments (Some all) (40 ∷ (s ++ 41 ∷ []))
 
   -- list(expr): one or more expr with commas between
   pub data SpellsAll : List Expr → Text → Type 0 where
+    -- list(expr): expr
     last : {a : Expr} {s : Text} → Spells whole a s → SpellsAll (a ∷ []) s
+    -- list(expr): expr `,` list(expr)
     more : {a : Expr} {all : List Expr} {s t : Text} → Spells whole a s → SpellsAll all t → SpellsAll (a ∷ all) (s ++ 44 ∷ t)
 
   -- the bounds of a substring: nothing, or `(` [expr] `:` [expr] `)` (section 5.7.1)
   pub data SpellsPart : Option Part → Text → Type 0 where
+    -- ref: name, or name with a list, alone
     no_part : SpellsPart None []
+    -- ref: either followed by `(` [expr] `:` [expr] `)` (section 5.7.1)
     part : {low high : Option Expr} {s t : Text} → SpellsBound low s → SpellsBound high t → SpellsPart (Some (part_of low high)) (40 ∷ (s ++ 58 ∷ (t ++ 41 ∷ [])))
 
   -- [expr]
   pub data SpellsBound : Option Expr → Text → Type 0 where
+    -- [expr]: nothing
     left_out : SpellsBound None []
+    -- [expr]: expr
     given : {a : Expr} {s : Text} → Spells whole a s → SpellsBound (Some a) s
 
 -- expr: the trees that a whole text spells

@@ -304,7 +304,12 @@ fn level(alloc: Global, reader: &mut Reader<'_>, depth: usize, top: usize) -> Re
     Ok(left)
 }
 
-/// An expr in which parentheses nest less deep than `depth`: where they nest as deep, nothing is read.
+/// The expr that comes next, in which parentheses nest less deep than `depth`. Where they nest as deep, nothing is read.
+///
+/// # Errors
+///
+/// `Unspelled` exactly where the text doesn't begin with such an expr, as the definition reads it. `NoMemory` where memory
+/// failed.
 #[cycle(grammar)]
 pub fn expr_within(alloc: Global, reader: &mut Reader<'_>, depth: usize) -> Result<Expr, Unread>
     ensures value { Reads (spec.expr_within depth reader.old) result reader.new }

@@ -37,7 +37,7 @@ impl Heads {
     }
 }
 
-/// What is left of a text.
+/// What is left of a text. What is left after an error isn't said.
 #[derive(Drop)]
 pub struct Reader<'a> {
     rest: &'a [u8],
@@ -109,7 +109,7 @@ impl<'a> Reader<'a> {
         }
     }
 
-    /// Takes a byte, which must come next.
+    /// Takes a byte, which must come next: `Unspelled` exactly where it doesn't.
     pub fn expect(&mut self, byte: u8) -> Result<(), Unread>
         ensures value { Reads (spec.expect byte self.old) result self.new }
         ensures within { length self.new ≤ length self.old }
@@ -171,6 +171,7 @@ impl<'a> Reader<'a> {
     }
 
     /// Takes a number, where a digit comes next: digits of value at most 2^63 - 1 (ANSI X3.9-1978, section 4.3.1).
+    /// `Unspelled` exactly where the digits that come next are worth more.
     pub fn number(&mut self) -> Result<Option<Expr>, Unread>
         ensures value { Reads (spec.number self.old) result self.new }
         ensures within { length self.new ≤ length self.old }
@@ -190,6 +191,7 @@ impl<'a> Reader<'a> {
     }
 
     /// Takes a name: one to six letters and digits, the first of which is a letter (ANSI X3.9-1978, section 2.2).
+    /// `Unspelled` exactly where the letters and digits that come next are none.
     pub fn name(&mut self) -> Result<Name, Unread>
         ensures value { Reads (spec.name self.old) result self.new }
         ensures within { length self.new ≤ length self.old }
