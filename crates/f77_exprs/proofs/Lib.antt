@@ -1,0 +1,12 @@
+pub mod Blanks
+pub mod Climbs
+pub mod Complete
+pub mod Constants
+pub mod Induction
+pub mod Names
+pub mod Numbers
+pub mod Powers
+pub mod Primaries
+pub mod Sound
+pub mod Turns
+pub mod Words
