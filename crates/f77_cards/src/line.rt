@@ -50,7 +50,7 @@ pub fn is_all_blank(bytes: &[u8]) -> bool
     bytes.iter().all(|byte| *byte == b' ')
 }
 
-/// Whether a byte is a digit.
+/// Whether some byte is a digit.
 pub fn has_digit(bytes: &[u8]) -> bool
     ensures { result ≡ list_any is_ascii_digit bytes.now }
 {
