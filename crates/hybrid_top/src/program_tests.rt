@@ -68,7 +68,8 @@ fn run_words(alloc: Global, steps: u64) -> Result<Words, NoMemory> {
     for word in [b"run".as_slice(), b"P", b"I", b"S"] {
         words.push(Bytes::from_slice(alloc, word)?)?;
     }
-    words.push(Bytes::from_slice(alloc, Decimal::new(steps as i64).as_slice())?)?;
+    let number = Decimal::new(i64::try_from(steps).unwrap_or(0));
+    words.push(Bytes::from_slice(alloc, number.as_slice())?)?;
     Ok(words)
 }
 
