@@ -5,6 +5,8 @@ use Rattle.f77_ast.specs.declared.program.Listed.{Listed}
 use Rattle.f77_ast.specs.declared.program.Program.{Program}
 use Rattle.f77_ast.specs.declared.program.Unit.{Unit as ProgramUnit}
 use Rattle.f77_ast.specs.declared.stmt.Stmt.{End}
+use Rattle.f77_meaning.specs.Loops.{loops_of}
+use Rattle.f77_meaning.specs.Ranges.{RangesNest}
 use Rattle.f77_meaning.specs.Sound.{EndsWithEnd, IsSound, statement_resolves}
 use Rattle.f77_meaning.specs.Storage.{IsStorage}
 
@@ -24,13 +26,15 @@ resolved_of_one layout main resolved zero unit e =
 resolved_of_one layout main resolved (suc u) unit e = absurd (cc)
 
 -- a program of one unit is sound, where its last statement is END, all references of its statements name entities, and
--- these lie in storage
-pub one_unit_is_sound : (program : Program) (main : ProgramUnit) (before : List Listed) (last : Listed) → program.units ≡ main ∷ [] → main.listing ≡ before ++ last ∷ [] → last.stmt ≡ End → All (λ listed. IsTrue (statement_resolves program.layout 0 listed.stmt)) main.listing → IsStorage program.layout → IsSound program
-one_unit_is_sound program main before last units listing ends resolved storage =
+-- these lie in storage, its loops are those of its DO statements, and their ranges nest
+pub one_unit_is_sound : (program : Program) (main : ProgramUnit) (before : List Listed) (last : Listed) → program.units ≡ main ∷ [] → main.listing ≡ before ++ last ∷ [] → last.stmt ≡ End → All (λ listed. IsTrue (statement_resolves program.layout 0 listed.stmt)) main.listing → IsStorage program.layout → program.loops ≡ loops_of program.units → RangesNest main.listing → IsSound program
+one_unit_is_sound program main before last units listing ends resolved storage loops ranges =
     record {
       main = subst (λ us. IsSome (slice_get us 0)) (sym units) refl;
       ended = subst (All (λ unit. EndsWithEnd unit.listing)) (sym units)
           (all_of_one (λ unit. EndsWithEnd unit.listing) main (record { before = before; last = last; joined = listing; is_end = ends }));
       resolved = subst (Resolved program.layout) (sym units) (resolved_of_one program.layout main resolved);
       storage = storage;
+      loops = loops;
+      ranges = subst (All (λ unit. RangesNest unit.listing)) (sym units) (all_of_one (λ unit. RangesNest unit.listing) main ranges);
     }

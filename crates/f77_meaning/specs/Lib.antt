@@ -1,9 +1,12 @@
 pub mod Assign
 pub mod Demand
+pub mod Do
 pub mod Event
+pub mod Loops
 pub mod Next
 pub mod Print
 pub mod Process
+pub mod Ranges
 pub mod Run
 pub mod Sound
 pub mod Step

@@ -6,7 +6,7 @@ use Rattle.f77_ast.specs.declared.step.Stepped.{Stepped}
 use Rattle.f77_ast.specs.declared.step.Stepped.TheVariants.{Read, Wrote, Inner, Printed, Ended, Faulted}
 use Rattle.f77_meaning.specs.Event.{Event, reads, writes, moves, prints, ends, faults}
 use Rattle.f77_meaning.specs.Process.{Process}
-use Rattle.f77_meaning.specs.Step.{event, resumed_by}
+use Rattle.f77_meaning.specs.Step.{event, onward, resumed_by}
 
 -- what a step comes to: what it answers, the process after it, the storage, the number of reads so far and the line
 -- that PRINT builds
@@ -46,11 +46,11 @@ abbrev pub line_after : Event → List ℕ → List ℕ
 line_after (prints text) line = text
 line_after _ line = line
 
--- what an event comes to
-abbrev pub next_by : Event → Process → (store : List ℤ) → (count : ℕ) → (line : List ℕ) → Next
-next_by did p store count line = record {
+-- what an event comes to, where the process is this one once the event is done
+abbrev pub next_by : Event → (done : Process) → Process → (store : List ℤ) → (count : ℕ) → (line : List ℕ) → Next
+next_by did done p store count line = record {
   stepped = stepped_of did;
-  process = resumed_by did p (answer_of did store);
+  process = resumed_by did done p (answer_of did store);
   store = store_after did store;
   reads = reads_after did count;
   line = line_after did line;
@@ -58,7 +58,7 @@ next_by did p store count line = record {
 
 -- what the next step of a process comes to
 abbrev pub next : Program → Process → (store : List ℤ) → (count : ℕ) → (line : List ℕ) → Next
-next program p store count line = next_by (event program p) p store count line
+next program p store count line = next_by (event program p) (onward program p) p store count line
 
 -- what a step came to, put together
 abbrev pub next_of : Stepped → Process → (store : List ℤ) → (count : ℕ) → (line : List ℕ) → Next

@@ -8,11 +8,28 @@ use Rattle.f77_ast.specs.declared.program.Unit.{Unit as ProgramUnit}
 use Rattle.f77_ast.specs.declared.stmt.Stmt.{Stmt}
 use Rattle.f77_ast.specs.declared.stmt.Stmt as stmt
 
--- a process stands at a statement of a unit, and has the values that the statement has read so far
+-- an active DO-loop (section 11.10.2): which DO statement of the file it is of, counted from 1; the places of the first
+-- and the terminal statement of its range in its unit; the address of its variable; what the execution of the DO
+-- statement has fixed, its first value, its increment and its count; and how many iterations have ended
+pub record ActiveLoop : Type 0 where
+  pub ordinal : ℕ
+  pub from : ℕ
+  pub last : ℕ
+  pub variable : ℕ
+  pub first : ℤ
+  pub increment : ℤ
+  pub count : ℕ
+  pub done : ℕ
+
+-- a process stands at a statement of a unit, has the values that the statement has read so far, and knows the active
+-- loops, the innermost one first. Where it increments, that statement is done and is the terminal statement of the
+-- innermost active loop, whose incrementation processing comes next
 pub record Process : Type 0 where
   pub unit : ℕ
   pub at : ℕ
   pub answers : List ℤ
+  pub active : List ActiveLoop
+  pub increments : Bool
 
 -- the statement at a place of a unit, both counted from 0
 abbrev pub statement_at : Program → (unit at : ℕ) → Option Listed
@@ -54,4 +71,4 @@ entry_of (main ∷ units) = first_executable main.listing
 
 -- the process before the first step: it stands at the first executable statement of the main unit
 abbrev pub first_process : Program → Process
-first_process program = record { unit = 0; at = entry_of program.units; answers = [] }
+first_process program = record { unit = 0; at = entry_of program.units; answers = []; active = []; increments = false }

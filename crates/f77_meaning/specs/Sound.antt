@@ -1,5 +1,5 @@
 -- What a step may ask of its program, its process, the storage and the line of PRINT.
-use Rattle.std.specs.Prelude.{◌≡◌, ℕ, ℤ, Bool, true, false, ◌&&◌, List, [], ◌∷◌, ◌++◌, length, All, Option, None, Some, IsSome, IsTrue, slice_get}
+use Rattle.std.specs.Prelude.{◌≡◌, ℕ, ◌+◌, ◌-◌, ◌^◌, ◌<◌, ◌≤◌, ℤ, Bool, true, false, ◌&&◌, List, [], ◌∷◌, ◌++◌, length, All, Option, None, Some, IsSome, IsTrue, slice_get}
 use Rattle.f77_ast.specs.Entity.{entity_in}
 use Rattle.f77_ast.specs.declared.expr.Expr.{Expr}
 use Rattle.f77_ast.specs.declared.expr.Expr.TheFolds.{fold-Expr, fold-Ref}
@@ -12,9 +12,14 @@ use Rattle.f77_ast.specs.declared.program.Listed.{Listed}
 use Rattle.f77_ast.specs.declared.program.Program.{Program}
 use Rattle.f77_ast.specs.declared.program.Unit.{Unit as ProgramUnit}
 use Rattle.f77_ast.specs.declared.stmt.Item.{Item, Plain}
-use Rattle.f77_ast.specs.declared.stmt.Stmt.{Stmt, Assign, Print, End}
+use Rattle.f77_ast.specs.declared.stmt.LoopControl.{LoopControl}
+use Rattle.f77_ast.specs.declared.stmt.Stmt.{Stmt, Assign, Do, Print, End}
 use Rattle.f77_meaning.specs.Storage.{is_scalar, is_vector, IsStorage}
-use Rattle.f77_meaning.specs.Process.{Process, listed_at}
+use Rattle.f77_meaning.specs.Do.{has_64_bits, value_after}
+use Rattle.f77_meaning.specs.Loops.{loops_of}
+use Rattle.f77_meaning.specs.Process.{ActiveLoop, Process, listed_at}
+use Rattle.f77_meaning.specs.Ranges.{IsDo, RangesNest, terminal_at}
+use Rattle.f77_meaning.specs.Step.{is_terminal}
 
 -- statements, the last of which is END (ANSI X3.9-1978, sections 2.4 and 11.14)
 pub record EndsWithEnd (listing : List Listed) : Type 0 where
@@ -67,23 +72,69 @@ module _ (layout : Layout) (unit : ℕ) where
   items_resolve [] = true
   items_resolve (item ∷ items) = item_resolves item && items_resolve items
 
-  -- whether all references of an assignment or a PRINT name entities of its unit; other statements aren't looked at yet
+  -- the same of a parameter of a DO statement that may be left out
+  abbrev pub step_resolves : Option Expr → Bool
+  step_resolves None = true
+  step_resolves (Some step) = resolves step
+
+  -- the same of the control of a DO statement, whose variable is a variable of its unit
+  abbrev pub control_resolves : LoopControl → Bool
+  control_resolves control =
+      resolves_to (entity_in layout.entities unit control.variable) None && (resolves control.first && (resolves control.last && step_resolves control.step))
+
+  -- whether all references of an assignment, a DO statement or a PRINT name entities of its unit; other statements aren't
+  -- looked at yet
   abbrev pub statement_resolves : Stmt → Bool
   statement_resolves (Assign target value) = ref_resolves target && resolves value
+  statement_resolves (Do terminal control) = control_resolves control
   statement_resolves (Print items) = items_resolve items
   statement_resolves _ = true
 
--- what every accepted program satisfies: it has a main unit, each unit ends with END, the references of its assignments
--- and PRINTs name entities, and these lie in storage
+-- what every accepted program satisfies: it has a main unit, each unit ends with END, the references of its assignments,
+-- DO statements and PRINTs name entities, these lie in storage, its loops are those of its DO statements, and their ranges
+-- nest
 pub record IsSound (program : Program) : Type 0 where
   pub main : IsSome (slice_get program.units 0)
   pub ended : All (λ unit. EndsWithEnd unit.listing) program.units
   pub resolved : (u : ℕ) (unit : ProgramUnit) → slice_get program.units u ≡ Some unit → All (λ listed. IsTrue (statement_resolves program.layout u listed.stmt)) unit.listing
   pub storage : IsStorage program.layout
+  pub loops : program.loops ≡ loops_of program.units
+  pub ranges : All (λ unit. RangesNest unit.listing) program.units
 
--- a process that may come of a program: it stands at a statement
+-- the numbers of an active loop: an iteration is left to end, the count has 64 bits, and so has each value of the variable
+-- up to that at the end of the loop; the variable is a unit of storage
+pub record CountsOn (total : ℕ) (loop : ActiveLoop) : Type 0 where
+  pub left : loop.done < loop.count
+  pub count : loop.count < 2 ^ 63
+  pub values : (iterations : ℕ) → iterations ≤ loop.count → IsTrue (has_64_bits (value_after loop.first loop.increment iterations))
+  pub variable : loop.variable < total
+
+-- an active loop of a unit of a program, in whose range the places from `low` to `high` lie: it is the loop of a DO
+-- statement
+pub record IsActive (program : Program) (unit low high : ℕ) (loop : ActiveLoop) : Type 0 where
+  pub entered : ProgramUnit
+  pub here : slice_get program.units unit ≡ Some entered
+  pub at : ℕ
+  pub label : ℕ
+  pub begins : IsDo entered.listing at label
+  pub from : loop.from ≡ at + 1
+  pub last : loop.last ≡ terminal_at entered.listing at label
+  pub above : loop.from ≤ low
+  pub below : high ≤ loop.last
+  pub numbers : CountsOn (length program.layout.first) loop
+
+-- active loops, the innermost one first: the places from `low` to `high` lie in the range of the first, and its DO
+-- statement and its range in that of the next one, and so on
+abbrev pub AreActive : Program → (unit low high : ℕ) → List ActiveLoop → Type 0
+AreActive program unit low high [] = Unit {0}
+AreActive program unit low high (loop ∷ outer) = IsActive program unit low high loop × AreActive program unit (loop.from - 1) loop.last outer
+
+-- a process that may come of a program: it stands at a statement, which lies in the range of each active loop; where it
+-- increments, it stands at the terminal statement of the innermost one
 pub record IsOf (program : Program) (p : Process) : Type 0 where
   pub stands : IsSome (listed_at program p)
+  pub active : AreActive program p.unit p.at p.at p.active
+  pub increments : p.increments ≡ true → IsTrue (is_terminal p.at p.active)
 
 -- storage for a layout: one value for each storage unit
 pub record Fits (layout : Layout) (store : List ℤ) : Type 0 where
