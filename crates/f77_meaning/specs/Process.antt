@@ -1,7 +1,6 @@
 -- A process: where control is in a program, and what is known there.
-use Rattle.std.specs.Prelude.{ℕ, ℤ, Bool, true, false, not, List, [], ◌∷◌, Option, None, Some, slice_get}
+use Rattle.std.specs.Prelude.{ℕ, zero, suc, ℤ, Bool, true, false, not, List, [], ◌∷◌, Option, None, Some, slice_get}
 use Rattle.std.specs.List.{prefix_len}
-use Rattle.std.specs.Option.{option_and_then}
 use Rattle.f77_ast.specs.declared.program.Listed.{Listed}
 use Rattle.f77_ast.specs.declared.program.Program.{Program}
 use Rattle.f77_ast.specs.declared.program.Unit.{Unit as ProgramUnit}
@@ -31,9 +30,15 @@ pub record Process : Type 0 where
   pub active : List ActiveLoop
   pub increments : Bool
 
+-- the statements of a unit; none where there is no such unit
+abbrev pub listing_of : List ProgramUnit → (unit : ℕ) → List Listed
+listing_of [] unit = []
+listing_of (first ∷ units) zero = first.listing
+listing_of (first ∷ units) (suc unit) = listing_of units unit
+
 -- the statement at a place of a unit, both counted from 0
 abbrev pub statement_at : Program → (unit at : ℕ) → Option Listed
-statement_at program unit at = option_and_then (λ entered. slice_get entered.listing at) (slice_get program.units unit)
+statement_at program unit at = slice_get (listing_of program.units unit) at
 
 -- the statement at which a process stands
 abbrev pub listed_at : Program → Process → Option Listed

@@ -17,7 +17,7 @@ use Rattle.f77_ast.specs.declared.stmt.Stmt.{Stmt, Assign, Do, Print, End}
 use Rattle.f77_meaning.specs.Storage.{is_scalar, is_vector, IsStorage}
 use Rattle.f77_meaning.specs.Do.{has_64_bits, value_after}
 use Rattle.f77_meaning.specs.Loops.{loops_of}
-use Rattle.f77_meaning.specs.Process.{ActiveLoop, Process, listed_at}
+use Rattle.f77_meaning.specs.Process.{ActiveLoop, Process, listed_at, listing_of}
 use Rattle.f77_meaning.specs.Ranges.{IsDo, RangesNest, terminal_at}
 use Rattle.f77_meaning.specs.Step.{is_terminal}
 
@@ -101,39 +101,37 @@ pub record IsSound (program : Program) : Type 0 where
   pub loops : program.loops ≡ loops_of program.units
   pub ranges : All (λ unit. RangesNest unit.listing) program.units
 
--- the numbers of an active loop: an iteration is left to end, the count has 64 bits, and so has each value of the variable
--- up to that at the end of the loop; the variable is a unit of storage
+-- the numbers of an active loop: an iteration is left to end, the count and the variable's value at the end of the loop have
+-- 64 bits, and the variable is a unit of storage of so many
 pub record CountsOn (total : ℕ) (loop : ActiveLoop) : Type 0 where
   pub left : loop.done < loop.count
   pub count : loop.count < 2 ^ 63
-  pub values : (iterations : ℕ) → iterations ≤ loop.count → IsTrue (has_64_bits (value_after loop.first loop.increment iterations))
+  pub end : IsTrue (has_64_bits (value_after loop.first loop.increment loop.count))
   pub variable : loop.variable < total
 
--- an active loop of a unit of a program, in whose range the places from `low` to `high` lie: it is the loop of a DO
+-- an active loop of a unit of these statements, in whose range the places from `low` to `high` lie: it is the loop of a DO
 -- statement
-pub record IsActive (program : Program) (unit low high : ℕ) (loop : ActiveLoop) : Type 0 where
-  pub entered : ProgramUnit
-  pub here : slice_get program.units unit ≡ Some entered
+pub record IsActive (total : ℕ) (listing : List Listed) (low high : ℕ) (loop : ActiveLoop) : Type 0 where
   pub at : ℕ
   pub label : ℕ
-  pub begins : IsDo entered.listing at label
+  pub begins : IsDo listing at label
   pub from : loop.from ≡ at + 1
-  pub last : loop.last ≡ terminal_at entered.listing at label
+  pub last : loop.last ≡ terminal_at listing at label
   pub above : loop.from ≤ low
   pub below : high ≤ loop.last
-  pub numbers : CountsOn (length program.layout.first) loop
+  pub numbers : CountsOn total loop
 
 -- active loops, the innermost one first: the places from `low` to `high` lie in the range of the first, and its DO
 -- statement and its range in that of the next one, and so on
-abbrev pub AreActive : Program → (unit low high : ℕ) → List ActiveLoop → Type 0
-AreActive program unit low high [] = Unit {0}
-AreActive program unit low high (loop ∷ outer) = IsActive program unit low high loop × AreActive program unit (loop.from - 1) loop.last outer
+abbrev pub AreActive : (total : ℕ) → List Listed → (low high : ℕ) → List ActiveLoop → Type 0
+AreActive total listing low high [] = Unit {0}
+AreActive total listing low high (loop ∷ outer) = IsActive total listing low high loop × AreActive total listing (loop.from - 1) loop.last outer
 
 -- a process that may come of a program: it stands at a statement, which lies in the range of each active loop; where it
 -- increments, it stands at the terminal statement of the innermost one
 pub record IsOf (program : Program) (p : Process) : Type 0 where
   pub stands : IsSome (listed_at program p)
-  pub active : AreActive program p.unit p.at p.at p.active
+  pub active : AreActive (length program.layout.first) (listing_of program.units p.unit) p.at p.at p.active
   pub increments : p.increments ≡ true → IsTrue (is_terminal p.at p.active)
 
 -- storage for a layout: one value for each storage unit
