@@ -1,5 +1,7 @@
 pub mod Lines
 pub mod Loops
+pub mod Rising
+pub mod Room
 pub mod Runs
 pub mod Sound
 pub mod Stands

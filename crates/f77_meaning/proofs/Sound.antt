@@ -1,11 +1,11 @@
 -- Which programs are sound.
-use Rattle.std.proofs.Common.{◌≡◌, ℕ, zero, suc, List, [], ◌∷◌, ◌++◌, All, refl, sym, subst, arith, slice_get, IsSome, IsTrue, Some}
+use Rattle.std.proofs.Common.{◌≡◌, ℕ, zero, suc, ◌+◌, ◌<◌, ◌^◌, length, List, [], ◌∷◌, ◌++◌, All, refl, sym, subst, arith, slice_get, IsSome, IsTrue, Some}
 use Rattle.f77_ast.specs.declared.program.Layout.{Layout}
 use Rattle.f77_ast.specs.declared.program.Listed.{Listed}
 use Rattle.f77_ast.specs.declared.program.Program.{Program}
 use Rattle.f77_ast.specs.declared.program.Unit.{Unit as ProgramUnit}
 use Rattle.f77_ast.specs.declared.stmt.Stmt.{End}
-use Rattle.f77_meaning.specs.Loops.{loops_of}
+use Rattle.f77_meaning.specs.Loops.{loops_of, statements_of}
 use Rattle.f77_meaning.specs.Ranges.{RangesNest}
 use Rattle.f77_meaning.specs.Sound.{EndsWithEnd, IsSound, statement_resolves}
 use Rattle.f77_meaning.specs.Storage.{IsStorage}
@@ -26,9 +26,9 @@ resolved_of_one layout main resolved zero unit e =
 resolved_of_one layout main resolved (suc u) unit e = absurd (cc)
 
 -- a program of one unit is sound, where its last statement is END, all references of its statements name entities, and
--- these lie in storage, its loops are those of its DO statements, and their ranges nest
-pub one_unit_is_sound : (program : Program) (main : ProgramUnit) (before : List Listed) (last : Listed) → program.units ≡ main ∷ [] → main.listing ≡ before ++ last ∷ [] → last.stmt ≡ End → All (λ listed. IsTrue (statement_resolves program.layout 0 listed.stmt)) main.listing → IsStorage program.layout → program.loops ≡ loops_of program.units → RangesNest main.listing → IsSound program
-one_unit_is_sound program main before last units listing ends resolved storage loops ranges =
+-- these lie in storage, its loops are those of its DO statements, their ranges nest, and its statements are counted with 32 bits
+pub one_unit_is_sound : (program : Program) (main : ProgramUnit) (before : List Listed) (last : Listed) → program.units ≡ main ∷ [] → main.listing ≡ before ++ last ∷ [] → last.stmt ≡ End → All (λ listed. IsTrue (statement_resolves program.layout 0 listed.stmt)) main.listing → IsStorage program.layout → program.loops ≡ loops_of program.units → RangesNest main.listing → length main.listing + 1 < 2 ^ 32 → IsSound program
+one_unit_is_sound program main before last units listing ends resolved storage loops ranges few =
     record {
       main = subst (λ us. IsSome (slice_get us 0)) (sym units) refl;
       ended = subst (All (λ unit. EndsWithEnd unit.listing)) (sym units)
@@ -37,4 +37,5 @@ one_unit_is_sound program main before last units listing ends resolved storage l
       storage = storage;
       loops = loops;
       ranges = subst (All (λ unit. RangesNest unit.listing)) (sym units) (all_of_one (λ unit. RangesNest unit.listing) main ranges);
+      counted = subst (λ us. statements_of us + 1 < 2 ^ 32) (sym units) (omega (arith, few));
     }

@@ -69,6 +69,11 @@ loops_among unit ordinal number (first ∷ units) =
 abbrev pub loops_of : List ProgramUnit → List Loop
 loops_of units = loops_among 0 1 1 units
 
+-- how many statements some units have
+abbrev pub statements_of : List ProgramUnit → ℕ
+statements_of [] = 0
+statements_of (first ∷ units) = length first.listing + statements_of units
+
 -- how many statements stand in the units before this one
 abbrev pub statements_before : List ProgramUnit → (unit : ℕ) → ℕ
 statements_before [] unit = 0

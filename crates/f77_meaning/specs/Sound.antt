@@ -16,7 +16,7 @@ use Rattle.f77_ast.specs.declared.stmt.LoopControl.{LoopControl}
 use Rattle.f77_ast.specs.declared.stmt.Stmt.{Stmt, Assign, Do, Print, End}
 use Rattle.f77_meaning.specs.Storage.{is_scalar, is_vector, IsStorage}
 use Rattle.f77_meaning.specs.Do.{has_64_bits, value_after}
-use Rattle.f77_meaning.specs.Loops.{loops_of}
+use Rattle.f77_meaning.specs.Loops.{loops_of, statements_of}
 use Rattle.f77_meaning.specs.Process.{ActiveLoop, Process, listed_at, listing_of}
 use Rattle.f77_meaning.specs.Ranges.{IsDo, RangesNest, terminal_at}
 use Rattle.f77_meaning.specs.Step.{is_terminal}
@@ -91,8 +91,8 @@ module _ (layout : Layout) (unit : ℕ) where
   statement_resolves _ = true
 
 -- what every accepted program satisfies: it has a main unit, each unit ends with END, the references of its assignments,
--- DO statements and PRINTs name entities, these lie in storage, its loops are those of its DO statements, and their ranges
--- nest
+-- DO statements and PRINTs name entities, these lie in storage, its loops are those of its DO statements, their ranges
+-- nest, and its statements are counted with 32 bits
 pub record IsSound (program : Program) : Type 0 where
   pub main : IsSome (slice_get program.units 0)
   pub ended : All (λ unit. EndsWithEnd unit.listing) program.units
@@ -100,6 +100,7 @@ pub record IsSound (program : Program) : Type 0 where
   pub storage : IsStorage program.layout
   pub loops : program.loops ≡ loops_of program.units
   pub ranges : All (λ unit. RangesNest unit.listing) program.units
+  pub counted : statements_of program.units + 1 < 2 ^ 32
 
 -- the numbers of an active loop: an iteration is left to end, the count and the variable's value at the end of the loop have
 -- 64 bits, and the variable is a unit of storage of so many

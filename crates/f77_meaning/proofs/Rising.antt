@@ -1,0 +1,94 @@
+-- The loops of a program stand in the order of their ranges, so that one is found by its place.
+use Rattle.std.proofs.Common.{◌≡◌, ℕ, zero, suc, ◌+◌, ◌<◌, ◌≤◌, ◌==◌, Bool, true, false, cond, List, [], ◌∷◌, ◌++◌, length, Option, None, Some, refl, ap, ◌∙◌, arith, slice_get, find}
+use Rattle.std.specs.Prelude.{nat_lt, slice_index_or}
+use Rattle.std.specs.List.Sorted.{IsNonDecreasingBy}
+use Rattle.std.specs.Option.{option_map_or}
+use Rattle.f77_ast.specs.declared.program.Listed.{Listed}
+use Rattle.f77_ast.specs.declared.program.Loop.{Loop}
+use Rattle.f77_ast.specs.declared.program.Unit.{Unit as ProgramUnit}
+use Rattle.f77_meaning.specs.Loops.{terminal_of, loop_from, loops_in, loops_among, loops_of, loop_that_begins, statements_before, statements_of}
+use Rattle.f77_meaning.specs.Process.{listing_of}
+
+-- the ranges of these loops begin no earlier than at this statement of the file, and none before that of the one before it
+abbrev pub Rise : (low : ℕ) → List Loop → Type 0
+Rise low [] = Unit {0}
+Rise low (loop ∷ loops) = (low ≤ loop.from) × Rise loop.from loops
+
+rise_lower : (low lower : ℕ) (loops : List Loop) → lower ≤ low → Rise low loops → Rise lower loops
+rise_lower low lower [] h r = tt
+rise_lower low lower (loop ∷ loops) h r = (omega (arith, h, r.0), r.1)
+
+-- the loops of some statements rise, and then those behind them
+rise_in : (unit ordinal number low : ℕ) (listing : List Listed) (behind : List Loop) → low ≤ number + 1 → Rise (number + length listing + 1) behind → Rise low (loops_in unit ordinal number listing ++ behind)
+rise_in unit ordinal number low [] behind h r = rise_lower (number + 0 + 1) low behind (omega (arith, h)) r
+rise_in unit ordinal number low (x ∷ xs) behind h r = by (terminal_of x.stmt) (rise_in unit ordinal (suc number) low xs behind (omega (arith, h)) same) (rise_in unit (suc ordinal) (suc number) (number + 1) xs behind (omega arith) same)
+  where
+    same : Rise (suc number + length xs + 1) behind
+    same = rise_lower (number + suc (length xs) + 1) (suc number + length xs + 1) behind (omega arith) r
+
+    by : (t : Option ℕ) → Rise low (loops_in unit ordinal (suc number) xs ++ behind) → Rise (number + 1) (loops_in unit (suc ordinal) (suc number) xs ++ behind) → Rise low (option_map_or (λ label. loop_from unit ordinal number x.card.line label xs ∷ loops_in unit (suc ordinal) (suc number) xs) t (loops_in unit ordinal (suc number) xs) ++ behind)
+    by None plain rest = plain
+    by (Some label) plain rest = (h, rest)
+
+rise_among : (unit ordinal number : ℕ) (units : List ProgramUnit) → Rise (number + 1) (loops_among unit ordinal number units)
+rise_among unit ordinal number [] = tt
+rise_among unit ordinal number (first ∷ units) =
+    let loops : List Loop = loops_in unit ordinal number first.listing in
+    rise_in unit ordinal number (number + 1) first.listing (loops_among (suc unit) (ordinal + length loops) (number + length first.listing) units) (omega arith)
+    (rise_among (suc unit) (ordinal + length loops) (number + length first.listing) units)
+
+-- the loops of a file rise
+pub loops_rise : (units : List ProgramUnit) → Rise 2 (loops_of units)
+loops_rise units = rise_among 0 1 1 units
+
+at_least : (low j : ℕ) (loops : List Loop) (d : Loop) → Rise low loops → j < length loops → low ≤ (slice_index_or loops j d).from
+at_least low j [] d r h = absurd (omega (arith, h))
+at_least low zero (loop ∷ loops) d r h = r.0
+at_least low (suc j) (loop ∷ loops) d r h = omega (arith, r.0, at_least loop.from j loops d r.1 (omega (arith, h)))
+
+-- so they are sorted by where their ranges begin
+pub sorted_from_rise : (low : ℕ) (loops : List Loop) → Rise low loops → IsNonDecreasingBy (λ loop. loop.from) loops
+sorted_from_rise low [] r i j d l h = absurd (omega (arith, h))
+sorted_from_rise low (loop ∷ loops) r zero zero d l h = omega arith
+sorted_from_rise low (loop ∷ loops) r zero (suc j) d l h = at_least loop.from j loops d r.1 (omega (arith, h))
+sorted_from_rise low (loop ∷ loops) r (suc i) zero d l h = absurd (omega (arith, l))
+sorted_from_rise low (loop ∷ loops) r (suc i) (suc j) d l h = sorted_from_rise loop.from loops r.1 i j d (omega (arith, l)) (omega (arith, h))
+
+-- none begins with an earlier statement
+none_earlier : (low number : ℕ) (loops : List Loop) → number < low → Rise low loops → loop_that_begins loops number ≡ None
+none_earlier low number [] h r = refl
+none_earlier low number (loop ∷ loops) h r =
+    ap (λ b. cond b (Some loop) (loop_that_begins loops number)) (other loop.from number (omega (arith, h, r.0)))
+    ∙ none_earlier loop.from number loops (omega (arith, h, r.0)) r.1
+  where
+    other : (a b : ℕ) → b < a → (a == b) ≡ false
+    other a b l = grind (arith, l)
+
+-- a loop that may be there, where it begins with this statement
+abbrev pub kept : ℕ → Option Loop → Option Loop
+kept number None = None
+kept number (Some loop) = cond (loop.from == number) (Some loop) None
+
+-- the loop that begins with a statement is looked for at the first place at which none begins before
+pub found_at : (low number place : ℕ) (loops : List Loop) → Rise low loops → ((k : ℕ) (loop : Loop) → slice_get loops k ≡ Some loop → k < place → loop.from < number) → ((loop : Loop) → slice_get loops place ≡ Some loop → number ≤ loop.from) → loop_that_begins loops number ≡ kept number (slice_get loops place)
+found_at low number place [] r before from = refl
+found_at low number zero (loop ∷ loops) r before from = by (loop.from == number) refl
+  where
+    greater : (a b : ℕ) → b ≤ a → (a == b) ≡ false → b < a
+    greater a b l e = grind (arith, l, e)
+
+    by : (b : Bool) → (loop.from == number) ≡ b → cond b (Some loop) (loop_that_begins loops number) ≡ cond b (Some loop) None
+    by true e = refl
+    by false e = none_earlier loop.from number loops (greater loop.from number (from loop refl) e) r.1
+found_at low number (suc place) (loop ∷ loops) r before from =
+    ap (λ b. cond b (Some loop) (loop_that_begins loops number)) (other loop.from number (before 0 loop refl (omega arith)))
+    ∙ found_at loop.from number place loops r.1 (λ k l e h. before (suc k) l e (omega (arith, h))) from
+  where
+    other : (a b : ℕ) → a < b → (a == b) ≡ false
+    other a b l = grind (arith, l)
+
+-- a statement of a unit is one of the file
+pub counted_in : (units : List ProgramUnit) (u : ℕ) → statements_before units u + length (listing_of units u) ≤ statements_of units
+counted_in [] u = omega arith
+counted_in (first ∷ units) zero = omega arith
+counted_in (first ∷ units) (suc u) = omega (arith, counted_in units u)
