@@ -8,19 +8,6 @@ use Rattle.f77_ast.specs.declared.refusal.Fault.TheVariants.{Subscript}
 use Rattle.f77_meaning.specs.Demand.{Evaluation, fails, located}
 use Rattle.f77_meaning.specs.Storage.{LiesIn}
 
--- what is found is one of the list
-found_holds : {X : Type 0} (P : X → Type 0) (test : X → Bool) (xs : List X) (x : X) → All P xs → find test xs ≡ Some x → P x
-found_holds P test [] x all e = absurd (cc)
-found_holds P test (y ∷ xs) x all e = by (test y) (found_holds P test xs x (λ k d h. all (suc k) d (omega (arith, h)))) e
-  where
-    by : (b : Bool) → (find test xs ≡ Some x → P x) → cond b (Some y) (find test xs) ≡ Some x → P x
-    by true rest e = let same : y ≡ x = cc in subst P same (all 0 y (omega arith))
-    by false rest e = rest e
-
--- the entity of a name lies in storage, where all do
-pub entity_lies : (total : ℕ) (entities : List Entity) (unit : ℕ) (name : List ℕ) (entity : Entity) → All (LiesIn total) entities → entity_in entities unit name ≡ Some entity → LiesIn total entity
-entity_lies total entities unit name entity all e = found_holds (LiesIn total) (is_called unit name) entities entity all e
-
 -- no reference with two subscripts or more has a meaning yet
 pub many_subscripts : (evaluation : Expr → Evaluation) (entity : Entity) (xs : List Expr) (args : Option (List Expr)) (answers : List ℤ) → args ≡ Some xs → 2 ≤ length xs → located (Some entity) (option_map (map evaluation) args) answers ≡ fails Subscript
 many_subscripts evaluation entity [] args answers e h = absurd (omega (arith, h))

@@ -1,4 +1,8 @@
+pub mod Actives
 pub mod Assigned
 pub mod Chains
+pub mod Counts
 pub mod Entities
+pub mod Halves
 pub mod Numbers
+pub mod Steps

@@ -1,7 +1,10 @@
+pub mod Active
 pub mod Answer
+pub mod Begun
 pub mod Chain
 pub mod Input
 pub mod Line
+pub mod Loops
 pub mod Number
 pub mod Print
 pub mod Process

@@ -1,5 +1,5 @@
 -- How many units a statement reads at most.
-use Rattle.std.specs.Prelude.{ℕ, ◌+◌, ◌≤◌, List, [], ◌∷◌, All, Option, Some}
+use Rattle.std.specs.Prelude.{ℕ, ◌+◌, ◌≤◌, List, [], ◌∷◌, All, Option, None, Some}
 use Rattle.f77_ast.specs.declared.expr.Expr.{Expr}
 use Rattle.f77_ast.specs.declared.expr.Expr.TheFolds.{fold-Expr, fold-Ref}
 use Rattle.f77_ast.specs.declared.expr.Expr.TheOpen.{Expr-F, Part-F, Ref-F}
@@ -8,7 +8,8 @@ use Rattle.f77_ast.specs.declared.expr.Ref.{Ref}
 use Rattle.f77_ast.specs.declared.program.Listed.{Listed}
 use Rattle.f77_ast.specs.declared.program.Program.{Program}
 use Rattle.f77_ast.specs.declared.stmt.Item.{Item, Plain}
-use Rattle.f77_ast.specs.declared.stmt.Stmt.{Stmt, Assign, Print}
+use Rattle.f77_ast.specs.declared.stmt.LoopControl.{LoopControl}
+use Rattle.f77_ast.specs.declared.stmt.Stmt.{Stmt, Assign, Do, Print}
 
 -- one level: each reference reads one unit, after what its subscripts read
 abbrev pub reads_step : Expr-F ℕ (Unit {0}) ℕ → ℕ
@@ -46,9 +47,19 @@ abbrev pub items_reads : List Item → ℕ
 items_reads [] = 0
 items_reads (item ∷ items) = item_reads item + items_reads items
 
+-- the same of a parameter of a DO statement that may be left out
+abbrev pub step_reads : Option Expr → ℕ
+step_reads None = 0
+step_reads (Some step) = reads_in step
+
+-- the same of the control of a DO statement
+abbrev pub control_reads : LoopControl → ℕ
+control_reads control = reads_in control.first + (reads_in control.last + step_reads control.step)
+
 -- the same of a statement
 abbrev pub statement_reads : Stmt → ℕ
 statement_reads (Assign target value) = subscript_reads target + reads_in value
+statement_reads (Do terminal control) = control_reads control
 statement_reads (Print items) = items_reads items
 statement_reads _ = 0
 

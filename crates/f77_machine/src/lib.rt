@@ -3,12 +3,16 @@
 //! What a step does is a definition of `f77_meaning`: each contract here cites it.
 #![tactic(auto)]
 
+mod active;
 pub mod answer;
 mod assign;
+mod begin;
 mod chain;
+mod count;
 pub mod demand;
 pub mod input;
 pub mod line;
+mod loops;
 mod number;
 mod place;
 mod print;

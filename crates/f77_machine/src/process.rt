@@ -1,26 +1,33 @@
 //! Processes: one step at a time through the statements of a program.
-ghost use Rattle.std.specs.Prelude.{◌≡◌, ◌+◌, ◌^◌, ◌<◌, ◌≤◌, OnSome, vec_capacity};
-ghost use Rattle.std.specs.Option.{option_copied};
+ghost use Rattle.std.specs.Prelude.{◌≡◌, ◌+◌, ◌^◌, ◌<◌, ◌≤◌, OnSome, slice_get, vec_capacity};
+ghost use Rattle.std.specs.Option.{option_and_then, option_copied};
 ghost use Rattle.f77_meaning.specs.Process.{statement_at, line_of, first_executable, entry_of, is_executable};
 
+mod control;
+
+use crate::active::ActiveLoop;
 use crate::answer::Answer;
 use crate::assign::assigned;
+use crate::begin::begin;
 use crate::input::Input;
 use crate::line::Line;
+use crate::loops::loop_at;
 use crate::print::print_line;
 use crate::reads::room_for;
 use f77_ast::expr::{Expr, Ref};
-use f77_ast::program::{Listed, Listing, Program};
+use f77_ast::program::{Listed, Listing, Program, Unit};
 use f77_ast::step::Stepped;
-use f77_ast::stmt::{Item, Stmt};
+use f77_ast::stmt::{Item, LoopControl, Stmt};
 use hyb_base::cells::Cells;
 use hyb_base::no_memory::NoMemory;
 use sqlite_items::Items;
 use std::alloc::Global;
 
-/// A process that runs a program: the statement at which it stands, and the values that this statement has read.
+/// A process that runs a program: the statement at which it stands, the values that this statement has read, and the
+/// active DO-loops, the outermost one first. Where it increments, that statement is done and ends the range of the
+/// innermost active loop, whose incrementation processing comes next.
 ///
-/// The room for these values is reserved when the process is made, so a step takes no memory.
+/// The room for values and loops is reserved when the process is made, so a step takes no memory.
 #[derive(Drop)]
 pub struct Process {
     unit: u32,
@@ -28,24 +35,33 @@ pub struct Process {
     line: u32,
     answers: Vec<i64>,
     room: usize,
+    active: Vec<ActiveLoop>,
+    depth: usize,
+    increments: bool,
     ghost reserved: { room ≤ vec_capacity answers },
+    ghost nested: { depth ≤ vec_capacity active },
 }
 
 impl Process {
-    ghost use Rattle.std.specs.Prelude.{◌≡◌, ◌+◌, ◌^◌, ◌<◌, ◌≤◌, ℕ, List, [], None, IfOk, IsTrue, length};
+    ghost use Rattle.std.specs.Prelude.{◌≡◌, ◌+◌, ◌^◌, ◌<◌, ◌≤◌, ℕ, List, [], None, IfOk, IsTrue, false, length};
     ghost use Rattle.f77_ast.specs.declared.program.Program.{Program};
     ghost use Rattle.f77_meaning.specs.Assign.{written_of};
     ghost use Rattle.f77_meaning.specs.Event.{reads};
     ghost use Rattle.f77_meaning.specs.Next.{next, next_by, next_of};
     ghost use Rattle.f77_meaning.specs.Print.{line_of_items};
+    ghost use Rattle.f77_meaning.specs.Do.{begun_of};
+    ghost use Rattle.f77_meaning.specs.Loops.{number_of};
     ghost use Rattle.f77_meaning.specs.Process.{first_process, listed_at};
+    ghost use Rattle.f77_meaning.specs.Process as meaning;
     ghost use Rattle.f77_meaning.specs.Sound.{IsSound, Fits, IsLineOf, HoldsItems};
-    ghost use Rattle.f77_meaning.specs.Step.{at_next, print_event, write_event, statement_event};
+    ghost use Rattle.f77_meaning.specs.Step.{after_begun, after_statement, beyond, do_event, increment_event, incremented, loop_at, print_event, write_event, statement_event};
     ghost use Rattle.f77_meaning.specs.Storage.{IsStorage};
+    ghost use Rattle.f77_ast.specs.declared.step.Stepped.TheVariants.{Inner};
+    ghost use Rattle.f77_machine.specs.Active.{actives_of, InnermostCountsOn};
     ghost use Rattle.f77_machine.specs.Input.{left_of};
     ghost use Rattle.f77_machine.specs.Line.{text_of};
-    ghost use Rattle.f77_machine.specs.Process.{process_of, IsProcessOf, KeepsPlace};
-    ghost use Rattle.f77_machine.specs.Reads.{statement_reads, items_reads, subscript_reads, reads_in};
+    ghost use Rattle.f77_machine.specs.Process.{process_of, HasLoopRoom, IsProcessOf, KeepsPlace};
+    ghost use Rattle.f77_machine.specs.Reads.{statement_reads, control_reads, items_reads, subscript_reads, reads_in};
 
     /// A process at the first executable statement of the main unit. It reserves what its steps need.
     pub fn new(alloc: Global, program: &Program) -> Result<Process, NoMemory>
@@ -63,6 +79,9 @@ impl Process {
             line: line_at(program, 0, at),
             answers: Vec::with_capacity(alloc, room)?,
             room,
+            active: Vec::with_capacity(alloc, program.loops.len())?,
+            depth: program.loops.len(),
+            increments: false,
         })
     }
 
@@ -73,12 +92,17 @@ impl Process {
     {
         let mut answers = Vec::with_capacity(alloc, self.room)?;
         answers.extend_from_slice(self.answers.as_slice())?;
+        let mut active = Vec::with_capacity(alloc, self.depth)?;
+        active.extend_from_slice(self.active.as_slice())?;
         Ok(Process {
             unit: self.unit,
             at: self.at,
             line: self.line,
             answers,
             room: self.room,
+            active,
+            depth: self.depth,
+            increments: self.increments,
         })
     }
 
@@ -115,7 +139,35 @@ impl Process {
     {
         match statement_at(program, self.unit, self.at) {
             None => Stepped::Ended,
+            Some(_done) if self.increments => self.increment(program, cells),
             Some(listed) => self.statement(program, &listed.stmt, cells, line),
+        }
+    }
+
+    /// The incrementation processing of the innermost active loop: its variable takes its next value (section
+    /// 11.10.7).
+    fn increment<C: Cells>(&mut self, program: &Program, cells: &mut C) -> Stepped
+        requires depth { length self.old.active.items ≤ self.old.depth }
+        requires numbers { InnermostCountsOn (length (C.values cells.old)) self.old.active.items }
+        requires fits { Fits program.now.layout (C.values cells.old) }
+        requires after { self.old.at + 1 < 2 ^ 64 }
+        ensures next { (text : List ℕ) → next_of result (process_of self.new) (C.values cells.new) (C.reads cells.new) text
+            ≡ next_by (increment_event (actives_of self.old.active.items)) (incremented self.old.unit self.old.at (actives_of self.old.active.items)) (process_of self.old) (C.values cells.old) (C.reads cells.old) text }
+        ensures fits { Fits program.now.layout (C.values cells.new) }
+        ensures same_test { C.may_get cells.new ≡ C.may_get cells.old }
+        ensures place { KeepsPlace program.now self.old self.new }
+    {
+        match self.active.pop() {
+            None => Stepped::Ended,
+            Some(innermost) => {
+                cells.put(innermost.variable, innermost.next_value());
+                self.turn(program, innermost);
+                Stepped::Wrote {
+                    address: innermost.variable,
+                    by: None,
+                    control: None,
+                }
+            }
         }
     }
 
@@ -133,16 +185,70 @@ impl Process {
         requires allowed { (address : ℕ) → IsTrue (C.may_get cells.old address) }
         requires items { HoldsItems stmt.now (text_of line.old) }
         requires after { self.old.at + 1 < 2 ^ 64 }
+        requires sound { IsSound program.now }
+        requires few { number_of program.now.units self.old.unit self.old.at + 1 < 2 ^ 32 }
+        requires depth { HasLoopRoom stmt.now self.old }
+        requires control { self.old.increments ≡ false }
         ensures next { next_of result (process_of self.new) (C.values cells.new) (C.reads cells.new) (text_of line.new)
-            ≡ next_by (statement_event program.now.layout self.old.unit stmt.now self.old.answers.items) (process_of self.old) (C.values cells.old) (C.reads cells.old) (text_of line.old) }
+            ≡ next_by (statement_event program.now self.old.unit self.old.at stmt.now self.old.answers.items) (after_statement program.now (process_of self.old) stmt.now) (process_of self.old) (C.values cells.old) (C.reads cells.old) (text_of line.old) }
         ensures fits { Fits program.now.layout (C.values cells.new) }
         ensures same_test { C.may_get cells.new ≡ C.may_get cells.old }
         ensures place { KeepsPlace program.now self.old self.new }
     {
         match stmt {
             Stmt::Assign { target, value } => self.assign(program, target, value, cells),
+            Stmt::Do { control, .. } => self.begin(program, control, cells),
+            Stmt::Continue => self.pass(program),
             Stmt::Print(items) => self.print(program, items, cells, line),
             _ => Stepped::Ended,
+        }
+    }
+
+    /// The step of CONTINUE: control moves (section 11.11).
+    fn pass(&mut self, program: &Program) -> Stepped
+        requires after { self.old.at + 1 < 2 ^ 64 }
+        ensures stepped { result ≡ Inner }
+        ensures process { process_of self.new ≡ beyond self.old.unit self.old.at (actives_of self.old.active.items) }
+        ensures place { KeepsPlace program.now self.old self.new }
+    {
+        self.go_beyond(program, self.at);
+        Stepped::Inner
+    }
+
+    /// A step of a DO statement.
+    fn begin<C: Cells>(
+        &mut self,
+        program: &Program,
+        control: &LoopControl,
+        cells: &mut C,
+    ) -> Stepped
+        requires sound { IsSound program.now }
+        requires room { control_reads control.now ≤ self.old.room }
+        requires fits { Fits program.now.layout (C.values cells.old) }
+        requires allowed { (address : ℕ) → IsTrue (C.may_get cells.old address) }
+        requires few { number_of program.now.units self.old.unit self.old.at + 1 < 2 ^ 32 }
+        requires depth { length self.old.active.items < self.old.depth }
+        ensures next { (text : List ℕ) → next_of result (process_of self.new) (C.values cells.new) (C.reads cells.new) text
+            ≡ next_by (do_event (loop_at program.now self.old.unit self.old.at) (begun_of program.now.layout self.old.unit control.now self.old.answers.items)) (after_begun (process_of self.old) (loop_at program.now self.old.unit self.old.at) (begun_of program.now.layout self.old.unit control.now self.old.answers.items)) (process_of self.old) (C.values cells.old) (C.reads cells.old) text }
+        ensures fits { Fits program.now.layout (C.values cells.new) }
+        ensures same_test { C.may_get cells.new ≡ C.may_get cells.old }
+        ensures place { KeepsPlace program.now self.old self.new }
+    {
+        let Some(found) = loop_at(program, self.unit, self.at) else {
+            return Stepped::Ended;
+        };
+        match begin(&program.layout, self.unit, control, self.answers.as_slice()) {
+            Answer::Gives(begun, _rest) => {
+                cells.put(begun.variable, begun.first);
+                self.enter(program, ActiveLoop::new(self.at, *found, begun));
+                Stepped::Wrote {
+                    address: begun.variable,
+                    by: None,
+                    control: None,
+                }
+            }
+            Answer::Wants(address) => self.read(address, cells),
+            Answer::Fails(fault) => Stepped::Faulted(fault),
         }
     }
 
@@ -160,7 +266,7 @@ impl Process {
         requires allowed { (address : ℕ) → IsTrue (C.may_get cells.old address) }
         requires after { self.old.at + 1 < 2 ^ 64 }
         ensures next { (text : List ℕ) → next_of result (process_of self.new) (C.values cells.new) (C.reads cells.new) text
-            ≡ next_by (write_event (written_of program.now.layout self.old.unit target.now value.now self.old.answers.items)) (process_of self.old) (C.values cells.old) (C.reads cells.old) text }
+            ≡ next_by (write_event (written_of program.now.layout self.old.unit target.now value.now self.old.answers.items)) (beyond self.old.unit self.old.at (actives_of self.old.active.items)) (process_of self.old) (C.values cells.old) (C.reads cells.old) text }
         ensures fits { Fits program.now.layout (C.values cells.new) }
         ensures same_test { C.may_get cells.new ≡ C.may_get cells.old }
         ensures place { KeepsPlace program.now self.old self.new }
@@ -174,7 +280,7 @@ impl Process {
         ) {
             Answer::Gives((address, value), _rest) => {
                 cells.put(address, value);
-                self.go_on(program);
+                self.go_beyond(program, self.at);
                 Stepped::Wrote {
                     address,
                     by: None,
@@ -201,7 +307,7 @@ impl Process {
         requires items { text_of line.old ≡ [] }
         requires after { self.old.at + 1 < 2 ^ 64 }
         ensures next { next_of result (process_of self.new) (C.values cells.new) (C.reads cells.new) (text_of line.new)
-            ≡ next_by (print_event (line_of_items program.now.layout self.old.unit items.now self.old.answers.items)) (process_of self.old) (C.values cells.old) (C.reads cells.old) (text_of line.old) }
+            ≡ next_by (print_event (line_of_items program.now.layout self.old.unit items.now self.old.answers.items)) (beyond self.old.unit self.old.at (actives_of self.old.active.items)) (process_of self.old) (C.values cells.old) (C.reads cells.old) (text_of line.old) }
         ensures fits { Fits program.now.layout (C.values cells.new) }
         ensures same_test { C.may_get cells.new ≡ C.may_get cells.old }
         ensures place { KeepsPlace program.now self.old self.new }
@@ -214,7 +320,7 @@ impl Process {
             self.answers.as_slice(),
         ) {
             Answer::Gives((), _rest) => {
-                self.go_on(program);
+                self.go_beyond(program, self.at);
                 Stepped::Printed
             }
             Answer::Wants(address) => {
@@ -233,8 +339,8 @@ impl Process {
         requires within { address < length (C.values cells.old) }
         requires allowed { IsTrue (C.may_get cells.old address) }
         requires room { length self.old.answers.items < self.old.room }
-        ensures next { (text : List ℕ) → next_of result (process_of self.new) (C.values cells.new) (C.reads cells.new) text
-            ≡ next_by (reads address None) (process_of self.old) (C.values cells.old) (C.reads cells.old) text }
+        ensures next { (done : meaning.Process) (text : List ℕ) → next_of result (process_of self.new) (C.values cells.new) (C.reads cells.new) text
+            ≡ next_by (reads address None) done (process_of self.old) (C.values cells.old) (C.reads cells.old) text }
         ensures values { C.values cells.new ≡ C.values cells.old }
         ensures same_test { C.may_get cells.new ≡ C.may_get cells.old }
         ensures place { (program : Program) → KeepsPlace program self.old self.new }
@@ -242,17 +348,6 @@ impl Process {
         let value = cells.get(address);
         self.answers.push_reserved(value);
         Stepped::Read { address, by: None }
-    }
-
-    /// Goes on with the next statement.
-    fn go_on(&mut self, program: &Program)
-        requires after { self.old.at + 1 < 2 ^ 64 }
-        ensures process { process_of self.new ≡ at_next (process_of self.old) }
-        ensures place { KeepsPlace program.now self.old self.new }
-    {
-        self.at += 1;
-        self.answers.clear();
-        self.line = line_at(program, self.unit, self.at);
     }
 }
 
@@ -303,7 +398,15 @@ fn statement_at(program: &Program, unit: u32, at: usize) -> Option<&Listed>
     ensures listed { option_copied result ≡ statement_at program.now unit at }
     ensures after { OnSome result (at + 1 < 2 ^ 64) }
 {
-    program.units.get(unit as usize)?.listing.as_slice().get(at)
+    statement_of_unit(program.units.as_slice(), unit, at)
+}
+
+/// The same, by the units.
+fn statement_of_unit(units: &[Unit], unit: u32, at: usize) -> Option<&Listed>
+    ensures listed { option_copied result ≡ option_and_then (λ entered. slice_get entered.listing at) (slice_get units.now unit) }
+    ensures after { OnSome result (at + 1 < 2 ^ 64) }
+{
+    units.get(unit as usize)?.listing.as_slice().get(at)
 }
 
 /// The initial line of the statement at a place of a unit.

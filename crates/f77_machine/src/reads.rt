@@ -1,10 +1,10 @@
 //! How many units the statements of a program read at most.
 ghost use Rattle.std.specs.Prelude.{◌≡◌, ◌≤◌, IfSome};
-ghost use Rattle.f77_machine.specs.Reads.{reads_in, subscript_reads, item_reads, items_reads, statement_reads, AllHaveRoom, HasRoom};
+ghost use Rattle.f77_machine.specs.Reads.{reads_in, subscript_reads, item_reads, items_reads, step_reads, control_reads, statement_reads, AllHaveRoom, HasRoom};
 
 use f77_ast::expr::{Expr, Ref};
 use f77_ast::program::{Listing, Program};
-use f77_ast::stmt::{Item, Stmt};
+use f77_ast::stmt::{Item, LoopControl, Stmt};
 
 /// How many units an expression reads at most: none where that passes 64 bits.
 #[cycle(reads)]
@@ -57,12 +57,31 @@ fn items_reads(items: &[Item]) -> Option<usize>
     Some(sum)
 }
 
+/// The same of a parameter of a DO statement that may be left out.
+fn step_reads(step: &Option<Expr>) -> Option<usize>
+    ensures { IfSome result (λ n. n ≡ step_reads step.now) }
+{
+    match step {
+        None => Some(0),
+        Some(step) => reads_in(step),
+    }
+}
+
+/// The same of the control of a DO statement.
+fn control_reads(control: &LoopControl) -> Option<usize>
+    ensures { IfSome result (λ n. n ≡ control_reads control.now) }
+{
+    let after_first = reads_in(&control.last)?.checked_add(step_reads(&control.step)?)?;
+    reads_in(&control.first)?.checked_add(after_first)
+}
+
 /// The same of a statement.
 fn statement_reads(stmt: &Stmt) -> Option<usize>
     ensures { IfSome result (λ n. n ≡ statement_reads stmt.now) }
 {
     match stmt {
         Stmt::Assign { target, value } => subscript_reads(target)?.checked_add(reads_in(value)?),
+        Stmt::Do { control, .. } => control_reads(control),
         Stmt::Print(items) => items_reads(items.as_slice()),
         _ => Some(0),
     }

@@ -6,13 +6,8 @@ use Rattle.std.specs.Option.{option_map_or}
 use Rattle.f77_ast.specs.declared.program.Listed.{Listed}
 use Rattle.f77_ast.specs.declared.program.Loop.{Loop}
 use Rattle.f77_ast.specs.declared.program.Unit.{Unit as ProgramUnit}
-use Rattle.f77_meaning.specs.Loops.{terminal_of, loop_from, loops_in, loops_among, loops_of, loop_that_begins, statements_before, statements_of}
+use Rattle.f77_meaning.specs.Loops.{terminal_of, loop_from, loops_in, loops_among, loops_of, loop_that_begins, Rise, statements_before, statements_of}
 use Rattle.f77_meaning.specs.Process.{listing_of}
-
--- the ranges of these loops begin no earlier than at this statement of the file, and none before that of the one before it
-abbrev pub Rise : (low : ℕ) → List Loop → Type 0
-Rise low [] = Unit {0}
-Rise low (loop ∷ loops) = (low ≤ loop.from) × Rise loop.from loops
 
 rise_lower : (low lower : ℕ) (loops : List Loop) → lower ≤ low → Rise low loops → Rise lower loops
 rise_lower low lower [] h r = tt
@@ -55,36 +50,13 @@ sorted_from_rise low (loop ∷ loops) r (suc i) zero d l h = absurd (omega (arit
 sorted_from_rise low (loop ∷ loops) r (suc i) (suc j) d l h = sorted_from_rise loop.from loops r.1 i j d (omega (arith, l)) (omega (arith, h))
 
 -- none begins with an earlier statement
-none_earlier : (low number : ℕ) (loops : List Loop) → number < low → Rise low loops → loop_that_begins loops number ≡ None
+pub none_earlier : (low number : ℕ) (loops : List Loop) → number < low → Rise low loops → loop_that_begins loops number ≡ None
 none_earlier low number [] h r = refl
 none_earlier low number (loop ∷ loops) h r =
     ap (λ b. cond b (Some loop) (loop_that_begins loops number)) (other loop.from number (omega (arith, h, r.0)))
     ∙ none_earlier loop.from number loops (omega (arith, h, r.0)) r.1
   where
     other : (a b : ℕ) → b < a → (a == b) ≡ false
-    other a b l = grind (arith, l)
-
--- a loop that may be there, where it begins with this statement
-abbrev pub kept : ℕ → Option Loop → Option Loop
-kept number None = None
-kept number (Some loop) = cond (loop.from == number) (Some loop) None
-
--- the loop that begins with a statement is looked for at the first place at which none begins before
-pub found_at : (low number place : ℕ) (loops : List Loop) → Rise low loops → ((k : ℕ) (loop : Loop) → slice_get loops k ≡ Some loop → k < place → loop.from < number) → ((loop : Loop) → slice_get loops place ≡ Some loop → number ≤ loop.from) → loop_that_begins loops number ≡ kept number (slice_get loops place)
-found_at low number place [] r before from = refl
-found_at low number zero (loop ∷ loops) r before from = by (loop.from == number) refl
-  where
-    greater : (a b : ℕ) → b ≤ a → (a == b) ≡ false → b < a
-    greater a b l e = grind (arith, l, e)
-
-    by : (b : Bool) → (loop.from == number) ≡ b → cond b (Some loop) (loop_that_begins loops number) ≡ cond b (Some loop) None
-    by true e = refl
-    by false e = none_earlier loop.from number loops (greater loop.from number (from loop refl) e) r.1
-found_at low number (suc place) (loop ∷ loops) r before from =
-    ap (λ b. cond b (Some loop) (loop_that_begins loops number)) (other loop.from number (before 0 loop refl (omega arith)))
-    ∙ found_at loop.from number place loops r.1 (λ k l e h. before (suc k) l e (omega (arith, h))) from
-  where
-    other : (a b : ℕ) → a < b → (a == b) ≡ false
     other a b l = grind (arith, l)
 
 -- a statement of a unit is one of the file

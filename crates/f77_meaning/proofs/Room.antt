@@ -86,3 +86,10 @@ fewer_active program total u at label active sound begins actives =
     let listing : List Listed = listing_of program.units u in
     let loops : dos listing ≤ length program.loops = subst (λ loops. dos listing ≤ length loops) (sym sound.loops) (dos_among 0 1 1 u program.units) in
     omega (arith, loops, active_bound total at at listing active actives, dos_with at label listing begins, dos_of_all (suc at) listing)
+
+-- no more loops are active than the program has
+pub no_more_active : (program : Program) (total u low high : ℕ) (active : List ActiveLoop) → IsSound program → AreActive total (listing_of program.units u) low high active → length active ≤ length program.loops
+no_more_active program total u low high active sound actives =
+    let listing : List Listed = listing_of program.units u in
+    let loops : dos listing ≤ length program.loops = subst (λ loops. dos listing ≤ length loops) (sym sound.loops) (dos_among 0 1 1 u program.units) in
+    omega (arith, loops, active_bound total low high listing active actives, dos_of_all low listing)

@@ -56,10 +56,16 @@ after_in listing listed at ended h p =
     subst (λ xs. IsSome (slice_get xs (at + 1))) (sym ended.joined) (after_one ended.before ended.last listed at ended.is_end there p)
 
 -- what holds of the statements of each unit holds of those of a unit that has some
-of_unit : (P : List Listed → Type 0) (units : List ProgramUnit) (u at : ℕ) (listed : Listed) → All (λ unit. P unit.listing) units → slice_get (listing_of units u) at ≡ Some listed → P (listing_of units u)
+pub of_unit : (P : List Listed → Type 0) (units : List ProgramUnit) (u at : ℕ) (listed : Listed) → All (λ unit. P unit.listing) units → slice_get (listing_of units u) at ≡ Some listed → P (listing_of units u)
 of_unit P [] u at listed all e = absurd (cc)
 of_unit P (first ∷ units) zero at listed all e = all 0 first (omega arith)
 of_unit P (first ∷ units) (suc u) at listed all e = of_unit P units u at listed (λ k d h. all (suc k) d (omega (arith, h))) e
+
+-- the statement at a place of a unit, by the unit
+pub statement_in : (units : List ProgramUnit) (u at : ℕ) → slice_get (listing_of units u) at ≡ option_and_then (λ unit. slice_get unit.listing at) (slice_get units u)
+statement_in [] u at = refl
+statement_in (first ∷ units) zero at = refl
+statement_in (first ∷ units) (suc u) at = statement_in units u at
 
 -- there are statements before a place at which one stands
 stands_before : {A : Type 0} (xs : List A) (a b : ℕ) → a ≤ b → IsSome (slice_get xs b) → IsSome (slice_get xs a)

@@ -1,5 +1,5 @@
 -- The DO-loops of a program (ANSI X3.9-1978, section 11.10).
-use Rattle.std.specs.Prelude.{ℕ, zero, suc, ◌+◌, ◌==◌, Bool, true, false, not, ◌&&◌, List, [], ◌∷◌, ◌++◌, length, take, Option, None, Some, find}
+use Rattle.std.specs.Prelude.{ℕ, zero, suc, ◌+◌, ◌≤◌, ◌==◌, Bool, true, false, not, ◌&&◌, List, [], ◌∷◌, ◌++◌, length, take, Option, None, Some, find}
 use Rattle.std.specs.List.{list_all, position_or_len}
 use Rattle.std.specs.Option.{option_map_or}
 use Rattle.f77_ast.specs.declared.program.Listed.{Listed}
@@ -87,3 +87,8 @@ number_of units unit at = 1 + (statements_before units unit + at)
 -- the loop whose range begins with this statement of the file
 abbrev pub loop_that_begins : List Loop → (number : ℕ) → Option Loop
 loop_that_begins loops number = find (λ loop. loop.from == number) loops
+
+-- the ranges of some loops begin no earlier than at this statement of the file, and none before that of the loop before it
+abbrev pub Rise : (low : ℕ) → List Loop → Type 0
+Rise low [] = Unit {0}
+Rise low (loop ∷ loops) = (low ≤ loop.from) × Rise loop.from loops

@@ -1,0 +1,73 @@
+//! DO-loops that are active (ANSI X3.9-1978, section 11.10.2).
+ghost use Rattle.std.specs.Prelude.{◌≡◌, ◌+◌, ◌<◌, ◌≤◌, ◌^◌, IsTrue, suc};
+ghost use Rattle.f77_meaning.specs.Do.{active_from, has_64_bits, next_value, value_after};
+ghost use Rattle.f77_machine.specs.Active.{active_of};
+ghost use Rattle.f77_machine.specs.Begun.{begun_of};
+
+use crate::begin::Begun;
+use f77_ast::program::Loop;
+use hyb_base::wrap::{wrap_add, wrap_mul};
+
+/// An active DO-loop: what the execution of its DO statement has fixed, and how many iterations have ended.
+#[derive(Clone, Copy, Debug, PartialEq, Eq)]
+pub struct ActiveLoop {
+    /// The number of its DO statement among those of the file, from 1.
+    pub ordinal: u32,
+    /// The place of the first statement of its range in its unit, from 0.
+    pub from: usize,
+    /// The place of its terminal statement, counted likewise.
+    pub last: usize,
+    /// The address of its variable.
+    pub variable: u32,
+    /// The first value of its variable.
+    pub first: i64,
+    /// Its increment.
+    pub increment: i64,
+    /// Its iteration count.
+    pub count: u64,
+    /// The number of iterations that have ended.
+    pub done: u64,
+}
+
+impl ActiveLoop {
+    /// The loop of a DO statement at a place of a unit, which begins: its range goes on behind the DO statement.
+    pub fn new(at: usize, found: Loop, begun: Begun) -> ActiveLoop
+        requires { at < 2 ^ 32 }
+        ensures value { active_of result ≡ active_from at found (begun_of begun) }
+        ensures after { result.last + 1 < 2 ^ 64 }
+    {
+        let from = at + 1;
+        ActiveLoop {
+            ordinal: found.ordinal,
+            from,
+            last: from + found.last.saturating_sub(found.from) as usize,
+            variable: begun.variable,
+            first: begun.first,
+            increment: begun.increment,
+            count: begun.count,
+            done: 0,
+        }
+    }
+
+    /// The value that the incrementation processing gives the variable (ANSI X3.9-1978, section 11.10.7).
+    pub fn next_value(&self) -> i64
+        requires left { self.now.done < self.now.count }
+        requires count { self.now.count < 2 ^ 63 }
+        requires end { IsTrue (has_64_bits (value_after self.now.first self.now.increment self.now.count)) }
+        ensures { result ≡ next_value (active_of self.now) }
+    {
+        let iterations = (self.done + 1) as i64;
+        wrap_add(self.first, wrap_mul(iterations, self.increment))
+    }
+
+    /// The loop once one more iteration has ended.
+    pub fn after_iteration(self) -> ActiveLoop
+        requires { self.done < self.count }
+        ensures { active_of result ≡ record (active_of self) { done = suc self.done } }
+    {
+        ActiveLoop {
+            done: self.done + 1,
+            ..self
+        }
+    }
+}

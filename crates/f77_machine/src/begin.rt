@@ -1,0 +1,132 @@
+//! The DO statement: what its parameters come to (ANSI X3.9-1978, section 11.10.3).
+ghost use Rattle.std.specs.Prelude.{◌≡◌, ◌+◌, length};
+ghost use Rattle.f77_meaning.specs.Demand.{and_then, located};
+ghost use Rattle.f77_meaning.specs.Do.{begun_of, begun_with, increment_of};
+ghost use Rattle.f77_meaning.specs.Storage.{IsStorage};
+ghost use Rattle.f77_ast.specs.Entity.{entity_in};
+ghost use Rattle.f77_machine.specs.Answer.{as_demand, Asks, Lies};
+ghost use Rattle.f77_machine.specs.Begun.{as_begun, as_parameters, LiesAtVariable};
+ghost use Rattle.f77_machine.specs.Reads.{reads_in, step_reads, control_reads};
+
+use crate::answer::Answer;
+use crate::count::{Parameters, trips};
+use crate::demand::demand;
+use crate::place::{entity, variable};
+use f77_ast::expr::Expr;
+use f77_ast::name::Name;
+use f77_ast::program::Layout;
+use f77_ast::refusal::Fault;
+use f77_ast::stmt::LoopControl;
+
+/// A DO statement that begins.
+#[derive(Clone, Copy, Debug, PartialEq, Eq)]
+pub struct Begun {
+    /// The address of its variable.
+    pub variable: u32,
+    /// The first value of its variable.
+    pub first: i64,
+    /// Its increment.
+    pub increment: i64,
+    /// Its iteration count.
+    pub count: u64,
+}
+
+/// What a DO statement comes to: its parameters are read from the left, and then its variable's unit is the one to
+/// write. An incrementation parameter of 0 is a fault, and so is a count, or a value at the end of the loop, that
+/// hasn't 64 bits.
+pub fn begin<'a>(
+    layout: &Layout,
+    unit: u32,
+    control: &LoopControl,
+    answers: &'a [i64],
+) -> Answer<'a, Begun>
+    requires storage { IsStorage layout.now }
+    ensures value { as_begun result ≡ begun_of layout.now unit control.now answers.now }
+    ensures asks { Asks (length layout.now.first) (control_reads control.now) (length answers.now) result }
+    ensures lies { LiesAtVariable (length layout.now.first) result }
+{
+    match demand(layout, unit, &control.first, answers) {
+        Answer::Gives(first, rest) => match demand(layout, unit, &control.last, rest) {
+            Answer::Gives(last, more) => match increment(layout, unit, &control.step, more) {
+                Answer::Gives(increment, left) => {
+                    let parameters = Parameters {
+                        first,
+                        last,
+                        increment,
+                    };
+                    begin_by(layout, unit, &control.variable, parameters, left)
+                }
+                Answer::Wants(address) => Answer::Wants(address),
+                Answer::Fails(fault) => Answer::Fails(fault),
+            },
+            Answer::Wants(address) => Answer::Wants(address),
+            Answer::Fails(fault) => Answer::Fails(fault),
+        },
+        Answer::Wants(address) => Answer::Wants(address),
+        Answer::Fails(fault) => Answer::Fails(fault),
+    }
+}
+
+/// The incrementation parameter: 1 where it is left out.
+fn increment<'a>(
+    layout: &Layout,
+    unit: u32,
+    step: &Option<Expr>,
+    answers: &'a [i64],
+) -> Answer<'a, i64>
+    requires storage { IsStorage layout.now }
+    ensures value { as_demand result ≡ increment_of layout.now unit step.now answers.now }
+    ensures asks { Asks (length layout.now.first) (step_reads step.now) (length answers.now) result }
+{
+    match step {
+        None => Answer::Gives(1, answers),
+        Some(step) => demand(layout, unit, step, answers),
+    }
+}
+
+/// What a DO statement of this variable comes to, where its parameters are known.
+fn begin_by<'a>(
+    layout: &Layout,
+    unit: u32,
+    name: &Name,
+    parameters: Parameters,
+    rest: &'a [i64],
+) -> Answer<'a, Begun>
+    requires storage { IsStorage layout.now }
+    ensures value { as_begun result
+        ≡ and_then (located (entity_in layout.now.entities unit name.now) None rest.now) (λ variable more. begun_with variable (as_parameters parameters) more) }
+    ensures asks { Asks (length layout.now.first) 0 (length rest.now) result }
+    ensures lies { LiesAtVariable (length layout.now.first) result }
+{
+    match entity(layout, unit, name) {
+        None => Answer::Fails(Fault::Subscript),
+        Some(entity) => match variable(entity, rest) {
+            Answer::Gives(address, more) => begin_at(address, parameters, more),
+            Answer::Wants(address) => Answer::Wants(address),
+            Answer::Fails(fault) => Answer::Fails(fault),
+        },
+    }
+}
+
+/// The same, where the variable's address is known.
+fn begin_at<'a>(variable: u32, parameters: Parameters, rest: &'a [i64]) -> Answer<'a, Begun>
+    ensures value { as_begun result ≡ begun_with variable (as_parameters parameters) rest.now }
+    ensures asks { Asks 0 0 (length rest.now) result }
+    ensures lies { LiesAtVariable (variable + 1) result }
+{
+    if parameters.increment == 0 {
+        return Answer::Fails(Fault::ZeroIncrement);
+    }
+    match trips(parameters) {
+        Some(count) => {
+            let begun = Begun {
+                variable,
+                first: parameters.first,
+                increment: parameters.increment,
+                count,
+            };
+            Answer::Gives(begun, rest)
+        }
+        None => Answer::Fails(Fault::DoRange),
+    }
+}
