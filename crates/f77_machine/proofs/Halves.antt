@@ -24,7 +24,6 @@ found_at low number (suc place) (loop ∷ loops) r before from =
     other : (a b : ℕ) → a < b → (a == b) ≡ false
     other a b l = grind (arith, l)
 
-
 -- so it is where the loops are parted
 pub found_by_halves : (number place : ℕ) (loops : List Loop) → Rise 2 loops → IsFirstFrom loops number place → loop_that_begins loops number ≡ begins_at loops place number
 found_by_halves number place loops r parted = found_at 2 number place loops r before from

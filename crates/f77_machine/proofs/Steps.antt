@@ -21,17 +21,19 @@ use Rattle.f77_machine.proofs.Actives.{length-actives_of}
 
 -- a process that doesn't increment takes a step of its statement
 statement_steps : (program : Program) (p : meaning.Process) (listed : Listed) → p.increments ≡ false → listed_at program p ≡ Some listed → (event program p ≡ statement_event program p.unit p.at listed.stmt p.answers) × (onward program p ≡ after_statement program p listed.stmt)
-statement_steps program p listed here e =
-    ( ap (λ b. cond b (increment_event p.active) (event_at program p.unit p.at (listed_at program p) p.answers)) here
-      ∙ ap (λ found. event_at program p.unit p.at found p.answers) e
-    , ap (λ b. cond b (incremented p.unit p.at p.active) (after_listed program p (listed_at program p))) here
-      ∙ ap (after_listed program p) e)
+statement_steps program p listed here e = (
+  ap (λ b. cond b (increment_event p.active) (event_at program p.unit p.at (listed_at program p) p.answers)) here
+      ∙ ap (λ found. event_at program p.unit p.at found p.answers) e,
+  ap (λ b. cond b (incremented p.unit p.at p.active) (after_listed program p (listed_at program p))) here
+      ∙ ap (after_listed program p) e,
+)
 
 -- one that increments takes a step of the innermost active loop
 increment_steps : (program : Program) (p : meaning.Process) → p.increments ≡ true → (event program p ≡ increment_event p.active) × (onward program p ≡ incremented p.unit p.at p.active)
-increment_steps program p here =
-    ( ap (λ b. cond b (increment_event p.active) (event_at program p.unit p.at (listed_at program p) p.answers)) here
-    , ap (λ b. cond b (incremented p.unit p.at p.active) (after_listed program p (listed_at program p))) here)
+increment_steps program p here = (
+  ap (λ b. cond b (increment_event p.active) (event_at program p.unit p.at (listed_at program p) p.answers)) here,
+  ap (λ b. cond b (incremented p.unit p.at p.active) (after_listed program p (listed_at program p))) here,
+)
 
 -- after an event of a process comes a process of the program
 is_of_resumed : (program : Program) (p : meaning.Process) (answer : ℤ) (did : Event) (done : meaning.Process) → IsSound program → IsOf program p → event program p ≡ did → onward program p ≡ done → IsOf program (resumed_by did done p answer)
@@ -60,9 +62,12 @@ loop_room program p listed sound is_of e = by listed.stmt refl
   where
     by : (s : Stmt) → listed.stmt ≡ s → HasLoopRoom s p
     by (Do terminal control) h =
-        omega (arith,
-        fewer_active program (length program.layout.first) p.unit p.at terminal (actives_of p.active.items) sound (record { listed = listed; stands = e; names = ap terminal_of h }) is_of.stands.active,
-        length-actives_of p.active.items, is_of.depth)
+        omega (
+          arith,
+          fewer_active program (length program.layout.first) p.unit p.at terminal (actives_of p.active.items) sound (record { listed = listed; stands = e; names = ap terminal_of h }) is_of.stands.active,
+          length-actives_of p.active.items,
+          is_of.depth,
+        )
     by _ h = tt
 
 -- a statement at which a process stands reads no more than there is room for

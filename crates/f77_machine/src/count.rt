@@ -20,11 +20,7 @@ pub fn trips(parameters: Parameters) -> Option<u64>
     requires { parameters.increment ≢ pos 0 }
     ensures { result ≡ (if is_in_range (as_parameters parameters) then Some (count_of (as_parameters parameters)) else None) }
 {
-    let count = small(quotient(
-        parameters.first,
-        parameters.last,
-        parameters.increment,
-    ))?;
+    let count = small(quotient(parameters.first, parameters.last, parameters.increment))?;
     if ends(parameters.first, parameters.increment, count) {
         Some(count)
     } else {

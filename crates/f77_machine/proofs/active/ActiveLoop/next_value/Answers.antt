@@ -13,10 +13,10 @@ returns c =
     let sum_fits : FitsSigned w64 c.wrap_add.result = search rules in
     let iterations : to_z w64 (c.args.self.now.done + 1) ≡ pos (suc c.args.self.now.done) = omega (arith, ints, c.requires.left, c.requires.count) in
     let product : c.wrap_mul.result ≡ int_wrap w64 (pos (suc c.args.self.now.done) *ℤ c.args.self.now.increment) =
-        c.wrap_mul.ensures ∙ ap (λ k. int_wrap w64 (k *ℤ to_z w64 (of_z w64 c.args.self.now.increment))) iterations
-        ∙ ap (λ i. int_wrap w64 (pos (suc c.args.self.now.done) *ℤ i)) (to_z-of_z w64 c.args.self.now.increment increment_fits) in
+    c.wrap_mul.ensures ∙ ap (λ k. int_wrap w64 (k *ℤ to_z w64 (of_z w64 c.args.self.now.increment))) iterations
+    ∙ ap (λ i. int_wrap w64 (pos (suc c.args.self.now.done) *ℤ i)) (to_z-of_z w64 c.args.self.now.increment increment_fits) in
     let sum : c.wrap_add.result ≡ int_wrap w64 (c.args.self.now.first +ℤ c.wrap_mul.result) =
-        c.wrap_add.ensures ∙ ap (λ f. int_wrap w64 (f +ℤ to_z w64 (of_z w64 c.wrap_mul.result))) (to_z-of_z w64 c.args.self.now.first first_fits)
-        ∙ ap (λ m. int_wrap w64 (c.args.self.now.first +ℤ m)) (to_z-of_z w64 c.wrap_mul.result product_fits) in
+    c.wrap_add.ensures ∙ ap (λ f. int_wrap w64 (f +ℤ to_z w64 (of_z w64 c.wrap_mul.result))) (to_z-of_z w64 c.args.self.now.first first_fits)
+    ∙ ap (λ m. int_wrap w64 (c.args.self.now.first +ℤ m)) (to_z-of_z w64 c.wrap_mul.result product_fits) in
     to_z-of_z w64 c.wrap_add.result sum_fits
     ∙ next_is c.args.self.now.first c.args.self.now.increment c.wrap_mul.result c.wrap_add.result c.args.self.now.done c.args.self.now.count first_fits c.requires.end c.requires.left product sum
