@@ -1,3 +1,4 @@
 pub mod Lines
+pub mod LoopLemmas
 pub mod Runs
 pub mod Sound
