@@ -1,4 +1,5 @@
 pub mod Lines
+pub mod LoopLemmas
 pub mod Loops
 pub mod Rising
 pub mod Room

@@ -1,0 +1,35 @@
+-- What the code knows of the statements that follow one.
+use Rattle.std.specs.Prelude.{◌≡◌, ℕ, ◌+◌, Bool, true, List, length, reverse, Option, None, Some, nat_eq, nat_lt}
+use Rattle.std.specs.HashMap.{get}
+use Rattle.std.specs.Option.{unwrap_or}
+use Rattle.f77_ast.specs.declared.program.Listed.{Listed}
+use Rattle.f77_loops.specs.declared.following.Following.{Following}
+use Rattle.f77_loops.specs.declared.labels.Labels.{Labels}
+use Rattle.f77_loops.specs.declared.ranges.Range.{Range}
+use Rattle.f77_loops.specs.Ranges.{ranges_in, barrier_in}
+use Rattle.f77_meaning.specs.Loops.{distance_to}
+
+-- the number that is noted for a label
+abbrev pub number_at : Labels → (label : ℕ) → Option ℕ
+number_at labels label = get nat_eq labels.numbers label
+
+-- the nearest statement that has a label, or the one behind the unit's last one
+abbrev pub last_by : Following → (label : ℕ) → ℕ
+last_by known label = unwrap_or (number_at known.labels label) known.end
+
+-- whether a barrier that may be there stands behind a statement
+abbrev pub keeps_to : (last : ℕ) → Option ℕ → Bool
+keeps_to last None = true
+keeps_to last (Some barrier) = nat_lt last barrier
+
+-- the range that begins here and ends with a label
+abbrev pub range_by : Following → (label : ℕ) → Range
+range_by known label = record { last = last_by known label; closed = keeps_to (last_by known label) known.barrier }
+
+-- what is known of these statements of a unit, the first of which is statement `number` of the file, is so; they are all
+-- that the unit has left
+pub record Knows (number : ℕ) (following : List Listed) (known : Following) : Type 0 where
+  pub behind : known.end ≡ number + length following
+  pub labels : (label : ℕ) → last_by known label ≡ number + distance_to label following
+  pub barrier : known.barrier ≡ barrier_in number following
+  pub ranges : known.ranges.items ≡ reverse (ranges_in number following)

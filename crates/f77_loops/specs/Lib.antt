@@ -1,0 +1,4 @@
+pub mod Following
+pub mod Ranges
+pub mod Statements
+pub mod Turn

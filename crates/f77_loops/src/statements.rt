@@ -1,0 +1,51 @@
+//! What the loops of a file ask of a single statement.
+ghost use Rattle.std.specs.Prelude.{◌≡◌};
+ghost use Rattle.f77_meaning.specs.Loops.{terminal_of, may_be_closed};
+ghost use Rattle.f77_meaning.specs.Process.{is_executable};
+
+use f77_ast::stmt::{Label, Stmt};
+
+/// The label of the terminal statement that a DO statement names; none of any other statement
+/// (ANSI X3.9-1978, section 11.10).
+pub fn terminal_of(stmt: &Stmt) -> Option<Label>
+    ensures { result ≡ terminal_of stmt.now }
+{
+    match stmt {
+        Stmt::Do { terminal, .. } => Some(*terminal),
+        _ => None,
+    }
+}
+
+/// Whether a statement is executable: all but PROGRAM, SUBROUTINE, FUNCTION, the specification statements and DATA
+/// (section 7).
+pub fn is_executable(stmt: &Stmt) -> bool
+    ensures { result ≡ is_executable stmt.now }
+{
+    match stmt {
+        Stmt::Program(_) => false,
+        Stmt::Subroutine { .. } => false,
+        Stmt::Function { .. } => false,
+        Stmt::Declare { .. } => false,
+        Stmt::Dimension(_) => false,
+        Stmt::Common(_) => false,
+        Stmt::Equivalence(_) => false,
+        Stmt::Parameter(_) => false,
+        Stmt::Implicit(_) => false,
+        Stmt::Save(_) => false,
+        Stmt::Init(_) => false,
+        _ => true,
+    }
+}
+
+/// Whether a loop may be closed with this statement in its range: it is no READ, PRINT, WRITE, STOP or RETURN.
+pub fn may_be_closed(stmt: &Stmt) -> bool
+    ensures { result ≡ may_be_closed stmt.now }
+{
+    match stmt {
+        Stmt::Read(_) => false,
+        Stmt::Print(_) => false,
+        Stmt::Stop(_) => false,
+        Stmt::Return => false,
+        _ => true,
+    }
+}
