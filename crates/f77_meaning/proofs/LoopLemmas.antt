@@ -1,5 +1,5 @@
 -- The DO-loops of a file are numbered from 1; those of a file of one unit are the loops of its statements.
-use Rattle.std.proofs.Common.{◌≡◌, ℕ, zero, suc, ◌+◌, List, [], ◌∷◌, ◌++◌, length, Option, None, Some, refl, ap, ◌∙◌, arith, slice_get, append-nil}
+use Rattle.std.proofs.Common.{◌≡◌, ℕ, zero, suc, ◌+◌, List, [], ◌∷◌, ◌++◌, length, Option, None, Some, refl, ap, arith, slice_get, append-nil}
 use Rattle.std.specs.Option.{option_map_or}
 use Rattle.f77_ast.specs.declared.program.Listed.{Listed}
 use Rattle.f77_ast.specs.declared.program.Loop.{Loop}
@@ -31,8 +31,8 @@ numbered_append ordinal [] more numbered behind = record { at = λ place loop e.
 numbered_append ordinal (first ∷ loops) more numbered behind =
     numbered_before ordinal first (loops ++ more) (omega (arith, numbered.at 0 first refl))
     (numbered_append (suc ordinal) loops more
-      (record { at = λ place loop e. omega (arith, numbered.at (suc place) loop e) })
-      (record { at = λ place loop e. omega (arith, behind.at place loop e) }))
+    (record { at = λ place loop e. omega (arith, numbered.at (suc place) loop e) })
+    (record { at = λ place loop e. omega (arith, behind.at place loop e) }))
 
 -- the loops of a unit
 pub loops_in-numbered : (unit ordinal number : ℕ) (listing : List Listed) → AreNumberedFrom ordinal (loops_in unit ordinal number listing)

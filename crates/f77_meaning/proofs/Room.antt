@@ -1,12 +1,12 @@
 -- No more loops are active than a program has.
-use Rattle.std.proofs.Common.{◌≡◌, ℕ, zero, suc, ◌+◌, ◌-◌, ◌<◌, ◌≤◌, List, [], ◌∷◌, ◌++◌, length, take, Option, None, Some, refl, sym, ap, subst, ◌∙◌, arith}
+use Rattle.std.proofs.Common.{◌≡◌, ℕ, zero, suc, ◌+◌, ◌-◌, ◌<◌, ◌≤◌, List, [], ◌∷◌, length, take, Option, None, Some, refl, sym, ap, subst, ◌∙◌, arith}
 use Rattle.std.specs.Option.{option_map_or}
 use Rattle.std.proofs.lemmas.List.{length-append}
 use Rattle.f77_ast.specs.declared.program.Listed.{Listed}
 use Rattle.f77_ast.specs.declared.program.Loop.{Loop}
 use Rattle.f77_ast.specs.declared.program.Program.{Program}
 use Rattle.f77_ast.specs.declared.program.Unit.{Unit as ProgramUnit}
-use Rattle.f77_meaning.specs.Loops.{terminal_of, loop_from, loops_in, loops_among, loops_of}
+use Rattle.f77_meaning.specs.Loops.{terminal_of, loop_from, loops_in, loops_among}
 use Rattle.f77_meaning.specs.Process.{ActiveLoop, listing_of}
 use Rattle.f77_meaning.specs.Ranges.{IsDo}
 use Rattle.f77_meaning.specs.Sound.{AreActive, IsSound}

@@ -1,5 +1,5 @@
 -- A process of a sound program stands at a statement after each step, in the range of each active loop.
-use Rattle.std.proofs.Common.{◌≡◌, ◌≢◌, ℕ, zero, suc, ◌+◌, ◌-◌, ◌<◌, ◌≤◌, ◌^◌, ◌==◌, ◌&&◌, ℤ, pos, List, [], ◌∷◌, ◌++◌, All, length, Option, None, Some, IsSome, IsTrue, drop, refl, sym, ap, subst, ◌∙◌, arith, slice_get, Bool, true, false, not, cond, find}
+use Rattle.std.proofs.Common.{◌≡◌, ◌≢◌, ℕ, zero, suc, ◌+◌, ◌-◌, ◌<◌, ◌≤◌, ◌^◌, ◌==◌, ◌&&◌, ℤ, pos, List, [], ◌∷◌, ◌++◌, All, length, Option, None, Some, IsSome, IsTrue, refl, sym, ap, subst, ◌∙◌, arith, slice_get, Bool, true, false, not, cond, find}
 use Rattle.std.specs.Prelude.{nat_lt}
 use Rattle.std.specs.Option.{option_and_then}
 use Rattle.f77_ast.specs.Entity.{entity_in, is_called}
@@ -13,11 +13,10 @@ use Rattle.f77_ast.specs.declared.refusal.Fault.TheVariants.{Subscript, ZeroIncr
 use Rattle.f77_ast.specs.declared.specification.Bound.{Bound}
 use Rattle.f77_ast.specs.declared.stmt.LoopControl.{LoopControl}
 use Rattle.f77_ast.specs.declared.stmt.Stmt.{Stmt, Assign, Continue, Do, Print, End}
-use Rattle.f77_ast.specs.declared.stmt.Stmt as stmt
 use Rattle.f77_meaning.specs.Assign.{Written, written_of}
 use Rattle.f77_meaning.specs.Demand.{Demand, gives, wants, fails, and_then, located}
 use Rattle.f77_meaning.specs.Do.{Begun, Parameters, begun_of, begun_with, parameters_of, active_from, is_in_range, is_zero, count_of, has_64_bits, value_after}
-use Rattle.f77_meaning.specs.Loops.{distance_to, loop_that_begins, number_of, terminal_of}
+use Rattle.f77_meaning.specs.Loops.{loop_that_begins, number_of, terminal_of}
 use Rattle.f77_meaning.specs.Print.{line_of_items}
 use Rattle.f77_meaning.specs.Process.{ActiveLoop, Process, listed_at, listing_of, is_executable, first_executable, entry_of, first_process}
 use Rattle.f77_meaning.specs.Ranges.{HasRange, IsDo, RangesNest, may_end_range, terminal_at}
@@ -201,18 +200,19 @@ entered_is_of program u at label active loop begun sound begins_here found begin
         beyond_is_of program u new.last active range.terminal sound terminal (terminal_goes_on range.terminal.stmt range.ends)
         (narrower total at new.last new.last new.last listing active (outer active actives) (omega arith) (omega arith))
     by false h =
-        at_place program u new.from (new ∷ active) (stands_before listing new.from new.last (omega arith) (is_some (slice_get listing new.last) range.terminal terminal))
-        (record {
-          at = at;
-          label = label;
-          begins = begins_here;
-          from = refl;
-          last = last;
-          above = omega arith;
-          below = omega arith;
-          numbers = record { left = some begun.count h; count = begins.count; end = begins.end; variable = begins.variable };
-        },
-        narrower total at new.last (new.from - 1) new.last listing active (outer active actives) (omega arith) (omega arith))
+        at_place program u new.from (new ∷ active) (stands_before listing new.from new.last (omega arith) (is_some (slice_get listing new.last) range.terminal terminal)) (
+          record {
+            at = at;
+            label = label;
+            begins = begins_here;
+            from = refl;
+            last = last;
+            above = omega arith;
+            below = omega arith;
+            numbers = record { left = some begun.count h; count = begins.count; end = begins.end; variable = begins.variable };
+          },
+          narrower total at new.last (new.from - 1) new.last listing active (outer active actives) (omega arith) (omega arith),
+        )
 
 -- what is found is one of the list
 found_holds : {X : Type 0} (P : X → Type 0) (test : X → Bool) (xs : List X) (x : X) → All P xs → find test xs ≡ Some x → P x

@@ -112,7 +112,8 @@ module _ (layout : Layout) (unit : ℕ) (v : Ref) where
       else None
 
   -- the right side of an accumulation, with v held open: the first form that fits counts; none where the assignment is
-  -- no accumulation. No function is referenced yet, so the rule that there is none but intrinsics needs no words here
+  -- no accumulation. Accumulations by MAX, MIN and the logical operators have no words yet, and no function is referenced
+  -- yet, so the rule that there is none but intrinsics needs none
   abbrev pub held_of : Expr → Option Held
   held_of expr = option_or (chain_of stands_in_sum expr) (option_or (chain_of stands_in_product expr) (last_by (operation_of expr)))
 

@@ -49,7 +49,7 @@ pub record Begun : Type 0 where
   pub increment : ℤ
   pub count : ℕ
 
--- the incrementation parameter isn't 0 (section 11.10.3), and the count and the last value are in range
+-- the incrementation parameter isn't 0 (section 11.10.3), and the count and the value at the end of the loop are in range
 abbrev pub begun_with : (variable : ℕ) → Parameters → List ℤ → Demand Begun
 begun_with variable m rest =
     if is_zero m.increment then fails ZeroIncrement

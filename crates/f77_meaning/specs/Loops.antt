@@ -1,5 +1,5 @@
 -- The DO-loops of a program (ANSI X3.9-1978, section 11.10).
-use Rattle.std.specs.Prelude.{ℕ, zero, suc, ◌+◌, ◌≤◌, ◌==◌, Bool, true, false, not, ◌&&◌, List, [], ◌∷◌, ◌++◌, length, take, Option, None, Some, find}
+use Rattle.std.specs.Prelude.{ℕ, zero, suc, ◌+◌, ◌≤◌, ◌==◌, Bool, true, false, ◌&&◌, List, [], ◌∷◌, ◌++◌, length, take, Option, None, Some, find}
 use Rattle.std.specs.List.{list_all, position_or_len}
 use Rattle.std.specs.Option.{option_map_or}
 use Rattle.f77_ast.specs.declared.program.Listed.{Listed}
@@ -27,7 +27,8 @@ has_label label listed = is_label label listed.card.label && is_executable liste
 abbrev pub distance_to : ℕ → List Listed → ℕ
 distance_to label listing = position_or_len (has_label label) listing
 
--- whether a loop may be closed with this statement in its range: it is no READ, PRINT, WRITE, STOP or RETURN. Calls,
+-- a closed loop is one that may be judged and run in any order: it shows nothing and isn't left on the way. Whether a
+-- loop may be closed with this statement in its range: it is no READ, PRINT, WRITE, STOP or RETURN. Calls,
 -- jumps and logical IF have no words here yet
 abbrev pub may_be_closed : Stmt → Bool
 may_be_closed (stmt.Read items) = false

@@ -1,4 +1,4 @@
--- A process: where control is in a program, and what is known there.
+-- A process: where control is in a program, and what is known there (ANSI X3.9-1978, sections 7.1 and 11.10).
 use Rattle.std.specs.Prelude.{ℕ, zero, suc, ℤ, Bool, true, false, not, List, [], ◌∷◌, Option, None, Some, slice_get}
 use Rattle.std.specs.List.{prefix_len}
 use Rattle.f77_ast.specs.declared.program.Listed.{Listed}
@@ -21,8 +21,8 @@ pub record ActiveLoop : Type 0 where
   pub done : ℕ
 
 -- a process stands at a statement of a unit, has the values that the statement has read so far, and knows the active
--- loops, the innermost one first. Where it increments, that statement is done and is the terminal statement of the
--- innermost active loop, whose incrementation processing comes next
+-- loops, the innermost one first. Where it increments, that statement is the terminal statement of the innermost active
+-- loop and takes no further step: the loop's incrementation processing comes next
 pub record Process : Type 0 where
   pub unit : ℕ
   pub at : ℕ

@@ -90,9 +90,9 @@ module _ (layout : Layout) (unit : ℕ) where
   statement_resolves (Print items) = items_resolve items
   statement_resolves _ = true
 
--- what every accepted program satisfies: it has a main unit, each unit ends with END, the references of its assignments,
--- DO statements and PRINTs name entities, these lie in storage, its loops are those of its DO statements, their ranges
--- nest, and its statements are counted with 32 bits
+-- what every accepted program satisfies: it has a first unit, which is the main unit so far, each unit ends with END, the
+-- references of its assignments, DO statements and PRINTs name entities, these lie in storage, its loops are those of its
+-- DO statements, their ranges nest, and its statements are counted with 32 bits
 pub record IsSound (program : Program) : Type 0 where
   pub main : IsSome (slice_get program.units 0)
   pub ended : All (λ unit. EndsWithEnd unit.listing) program.units
@@ -110,8 +110,8 @@ pub record CountsOn (total : ℕ) (loop : ActiveLoop) : Type 0 where
   pub end : IsTrue (has_64_bits (value_after loop.first loop.increment loop.count))
   pub variable : loop.variable < total
 
--- an active loop of a unit of these statements, in whose range the places from `low` to `high` lie: it is the loop of a DO
--- statement
+-- an active loop of a unit of these statements, in whose range the places from `low` to `high` lie: its range is that of a
+-- DO statement of the unit, and its numbers are in range
 pub record IsActive (total : ℕ) (listing : List Listed) (low high : ℕ) (loop : ActiveLoop) : Type 0 where
   pub at : ℕ
   pub label : ℕ

@@ -1,4 +1,4 @@
--- The next event of a process, and how the process goes on.
+-- The next event of a process, and how the process goes on (ANSI X3.9-1978, sections 10 to 12).
 use Rattle.std.specs.Prelude.{ℕ, suc, ◌+◌, ◌==◌, ℤ, Bool, true, false, List, [], ◌∷◌, ◌++◌, Option, None, Some, nat_lt, if◌then◌else◌}
 use Rattle.f77_ast.specs.declared.program.Listed.{Listed}
 use Rattle.f77_ast.specs.declared.program.Loop.{Loop}
@@ -46,7 +46,7 @@ abbrev pub loop_at : Program → (unit at : ℕ) → Option Loop
 loop_at program unit at = loop_that_begins program.loops (number_of program.units unit at + 1)
 
 -- the next event of the statement at a place of a unit that has read these values: CONTINUE moves control (section
--- 11.11), END of the main unit ends the run (section 11.14). The other statements have no meaning yet, and no process of
+-- 11.11), END ends the run, as there is no unit but the main one yet (section 11.14). The other statements have no meaning yet, and no process of
 -- an accepted program comes to one
 abbrev pub statement_event : Program → (unit at : ℕ) → Stmt → List ℤ → Event
 statement_event program unit at (Assign target value) answers = write_event (written_of program.layout unit target value answers)
@@ -70,8 +70,8 @@ abbrev pub is_terminal : (at : ℕ) → List ActiveLoop → Bool
 is_terminal at [] = false
 is_terminal at (loop ∷ outer) = loop.last == at
 
--- a process whose statement is done: where that is the terminal statement of the innermost active loop, this loop's
--- incrementation processing comes next (section 11.10.6), and else the next statement
+-- a process that is done with the statement at a place: where that is the terminal statement of the innermost active
+-- loop, this loop's incrementation processing comes next (section 11.10.6), and else the next statement
 abbrev pub beyond : (unit at : ℕ) → List ActiveLoop → Process
 beyond unit at active =
     if is_terminal at active
@@ -79,8 +79,8 @@ beyond unit at active =
     else record { unit = unit; at = at + 1; answers = []; active = active; increments = false }
 
 -- a process after a DO statement: its range is run where its count isn't zero. Where that is zero, control goes past the
--- range (section 11.10.4); where an outer active loop has the same terminal statement, that loop's iteration ends there,
--- without the steps of that statement
+-- range (section 11.10.4); where outer active loops have the same terminal statement, the iteration of the innermost of
+-- these ends there, without the steps of that statement
 abbrev pub entered : (unit : ℕ) → ActiveLoop → List ActiveLoop → Process
 entered unit loop outer =
     if loop.count == 0
@@ -88,7 +88,8 @@ entered unit loop outer =
     else record { unit = unit; at = loop.from; answers = []; active = loop ∷ outer; increments = false }
 
 -- a process after the incrementation processing of its innermost active loop: the range is run again where iterations are
--- left, and else the loop is inactive and control goes past its terminal statement (sections 11.10.2, 11.10.4 and 11.10.7)
+-- left, and else the loop is inactive, and its terminal statement is done for the loop around it (sections 11.10.2, 11.10.4
+-- and 11.10.7)
 abbrev pub incremented : (unit at : ℕ) → List ActiveLoop → Process
 incremented unit at [] = beyond unit at []
 incremented unit at (loop ∷ outer) =
@@ -110,7 +111,8 @@ abbrev pub after_listed : Program → Process → Option Listed → Process
 after_listed program p None = p
 after_listed program p (Some listed) = after_statement program p listed.stmt
 
--- a process once what it does now is done: a function of the program and the process alone
+-- a process once the write, the move or the line that it comes to now is done: a function of the program and the process
+-- alone; after other events it isn't asked
 abbrev pub onward : Program → Process → Process
 onward program p = if p.increments then incremented p.unit p.at p.active else after_listed program p (listed_at program p)
 
