@@ -18,11 +18,13 @@ use Rattle.first_form.specs.Lines.{lines_of}
 use Rattle.first_form.specs.Spelling as spelling
 use Rattle.first_form.specs.Spelling.{Text, Level, Spells, SpellsReference, SpellsItem, SpellsDeclaration, SpellsMembers, SpellsLine}
 use Rattle.first_form.specs.Reading.{statement_of}
+use Rattle.first_form.specs.Ranges.{ranges_keep}
 use Rattle.first_form.specs.Rules.{is_declare, declares_first, statements_keep}
-use Rattle.first_form.specs.FirstForm.{statement_limit, listed, listed_by, listed_of, is_statement, is_end, is_end_line, ends_once, ends_in_end, with_listed, listing_of, statements_of, keeps_rules, first_passing, first_failing, first_break, program_of, refused, ended_of, ruled_of, tabbed_of, front_of}
+use Rattle.first_form.specs.FirstForm.{statement_limit, listed, listed_by, listed_of, is_statement, is_end, is_end_line, ends_once, ends_in_end, with_listed, listing_of, statements_of, keeps_rules, first_passing, first_failing, first_break, main_of, program_of, refused, ended_of, ruled_of, tabbed_of, front_of}
 use Rattle.first_form.specs.Sound as form
 use Rattle.first_form.specs.Sound.{IsArithmetic, literal, reference, plus, minus, addition, subtraction, product, quotient, parentheses, IsReference, subscripted, IsItem, plain, IsDeclaration, scalar, array, AreAll, last, more, IsDeclare, declare, IsAction, assign, print, AreDeclaresActionsEnd, IsOfFirstForm}
 use Rattle.first_form.proofs.Complete.{reference_first, not_end}
+use Rattle.first_form.proofs.LabelLemmas.{label_parts}
 use Rattle.first_form.proofs.Sound.{read_is_spelled}
 
 -- ---- what is spelled
@@ -60,7 +62,7 @@ declarations_all : {all : List TypedDeclarator} {s : Text} → SpellsMembers Spe
 declarations_all (spelling.last h) = last (a_declaration h)
 declarations_all (spelling.more h g) = more (a_declaration h) (declarations_all g)
 
--- an INTEGER statement, an assignment or a PRINT, or END
+-- an INTEGER statement, an assignment, a DO statement, a CONTINUE or a PRINT, or END
 pub data Kind : Text → Stmt → Type 0 where
   declares : {text : Text} {s : Stmt} → is_end text ≡ false → is_declare s ≡ true → IsDeclare s → Kind text s
   acts : {text : Text} {s : Stmt} → is_end text ≡ false → is_declare s ≡ false → IsAction s → Kind text s
@@ -70,6 +72,8 @@ kind : (text : Text) (s : Stmt) → SpellsLine text s → Kind text s
 kind _ _ (spelling.print h) = acts refl refl (print (items_all h))
 kind _ _ (spelling.declare h) = declares refl refl (declare (declarations_all h))
 kind _ _ (spelling.assign {s = s} {t = t} h g) = acts (not_end (s ++ 61 ∷ t) (reference_first h t)) refl (assign (referring h) (arithmetic g))
+kind _ _ (spelling.loop l n k h f g) = let p = label_parts l k in acts refl refl (form.loop _ n p.least p.greatest h (arithmetic f) (arithmetic g))
+kind _ _ spelling.continue = acts refl refl form.continue
 kind _ _ spelling.end = ends refl refl
 
 -- ---- the statements of lines
@@ -83,8 +87,8 @@ pub record Here (n : ℕ) (line : List ℕ) : Type 0 where
 
 here_by : (n : ℕ) (line : List ℕ) (inside : Bool) (o : Option Stmt) → is_in_columns line ≡ inside → statement_of (text_of line) ≡ o → (inside && is_some o) ≡ true → Here n line
 here_by n line true (Some s) inside read e = record {
-  one = listed n (text_of line) s;
-  is = λ i. if inside i then listed_by n (text_of line) (read i) else None;
+  one = listed n line s;
+  is = λ i. if inside i then listed_by n line (read i) else None;
   text = refl;
   of_kind = kind (text_of line) s (read_is_spelled (text_of line) s read);
 }
@@ -246,14 +250,16 @@ pub record Rules (lines : List (List ℕ)) : Type 0 where
   pub all : list_all is_statement lines ≡ true
   pub once : ends_once lines ≡ true
   pub kept : statements_keep (statements_of (listing_of 1 lines)) ≡ true
+  pub ranged : ranges_keep (listing_of 1 lines) ≡ true
 
 pub rules_of : (lines : List (List ℕ)) → keeps_rules lines ≡ true → Rules lines
 rules_of lines h =
-    let outer = and_parts (nat_le (length lines) statement_limit && list_all is_statement lines && ends_once lines) (statements_keep (statements_of (listing_of 1 lines))) h in
+    let whole = and_parts (nat_le (length lines) statement_limit && list_all is_statement lines && ends_once lines && statements_keep (statements_of (listing_of 1 lines))) (ranges_keep (listing_of 1 lines)) h in
+    let outer = and_parts (nat_le (length lines) statement_limit && list_all is_statement lines && ends_once lines) (statements_keep (statements_of (listing_of 1 lines))) whole.0 in
     let middle = and_parts (nat_le (length lines) statement_limit && list_all is_statement lines) (ends_once lines) outer.0 in
     let inner = and_parts (nat_le (length lines) statement_limit) (list_all is_statement lines) middle.0 in
     let le : length lines ≤ statement_limit = grind (arith, inner.0) in
-    record { few = le; all = inner.1; once = middle.1; kept = outer.1 }
+    record { few = le; all = inner.1; once = middle.1; kept = outer.1; ranged = whole.1 }
 
 pub form_of : (lines : List (List ℕ)) → Rules lines → ends_in_end lines ≡ true → AreDeclaresActionsEnd (listing_of 1 lines)
 form_of lines r ended = formed 1 lines r.all r.once ended (and_parts (declares_first (statements_of (listing_of 1 lines))) _ r.kept).0
@@ -263,7 +269,7 @@ of_lines lines r ended =
     let few = r.few in
     let w = listed_within 1 lines in
     record {
-      main = record { name = None; listing = listing_of 1 lines; code = record { instrs = []; starts = []; texts = [] } };
+      main = main_of (listing_of 1 lines);
       units = refl;
       statements = form_of lines r ended;
       within = omega arith;

@@ -11,7 +11,7 @@ use Rattle.f77_ast.specs.declared.program.Entity.{Entity}
 use Rattle.f77_ast.specs.declared.specification.Bound.{Bound}
 use Rattle.f77_ast.specs.declared.specification.Declarator.{Declarator}
 use Rattle.f77_ast.specs.declared.specification.TypedDeclarator.{TypedDeclarator}
-use Rattle.f77_ast.specs.declared.stmt.Stmt.{Stmt, Declare, Assign, Print}
+use Rattle.f77_ast.specs.declared.stmt.Stmt.{Stmt, Declare, Assign, Do, Print}
 use Rattle.first_form.specs.declared.names.Mention.{Mention}
 use Rattle.first_form.specs.declared.table.Table.{Table}
 use Rattle.first_form.specs.FirstForm.{names_of}
@@ -376,6 +376,7 @@ first_more (x ∷ ss) s =
 nothing_in : (s : Stmt) → is_declare s ≡ true → mentioned_in s ≡ []
 nothing_in (Declare typ entities) e = refl
 nothing_in (Assign target value) e = cc
+nothing_in (Do terminal control) e = cc
 nothing_in (Print items) e = cc
 nothing_in _ e = refl
 

@@ -1,8 +1,10 @@
 -- What is spelled is read.
-use Rattle.std.proofs.Common.{◌≡◌, ℕ, zero, suc, ◌+◌, ◌≤◌, ◌<◌, ◌^◌, pos, Bool, true, false, ◌==◌, ◌&&◌, nat_le, if◌then◌else◌, List, [], ◌∷◌, ◌++◌, length, take, drop, Option, Some, None, Result, Ok, Err, refl, sym, ap, ◌∙◌, subst, arith, length-append}
+use Rattle.std.proofs.Common.{◌≡◌, ℕ, zero, suc, ◌+◌, ◌≤◌, ◌<◌, ◌^◌, pos, Bool, true, false, ◌==◌, ◌&&◌, nat_le, if◌then◌else◌, List, [], ◌∷◌, ◌++◌, length, take, drop, Option, Some, None, Result, Ok, Err, refl, sym, ap, ◌∙◌, subst, arith, length-append, ◌⊎◌, inl, inr}
 use Rattle.std.proofs.lemmas.Bool.{and_parts, and_from}
 use Rattle.std.proofs.lemmas.List.{append_assoc, append-nil, take-append-drop}
-use Rattle.std.specs.Prelude.{codes, IfOk, ◌↔◌}
+use Rattle.std.proofs.lemmas.List.Folds.{list_all-append}
+use Rattle.std.specs.Option.{option_or}
+use Rattle.std.specs.Prelude.{codes, IfOk, IsTrue, ◌↔◌}
 use Rattle.std.specs.Char.{is_ascii_digit}
 use Rattle.std.specs.List.{list_all}
 use Rattle.std.specs.Str.{bytes_eq}
@@ -19,13 +21,15 @@ use Rattle.f77_ast.specs.declared.stmt.Item.{Item}
 use Rattle.f77_ast.specs.declared.stmt.Item.TheVariants as item
 use Rattle.f77_ast.specs.declared.stmt.Stmt.{Stmt}
 use Rattle.f77_ast.specs.declared.stmt.Stmt.TheVariants as stmt
+use Rattle.first_form.specs.Labels.{is_label}
 use Rattle.first_form.specs.Spelling.{Text, Level, Sum, Term, Primary, Spells, reference, parentheses, single, product, quotient, unsigned, plus, minus, addition, subtraction, SpellsReference, subscripted, SpellsItem, plain, SpellsDeclaration, scalar, array, SpellsMembers, last, more, SpellsLine, print, declare, assign, end}
 use Rattle.first_form.specs.Spelling as spelling
 use Rattle.first_form.specs.Reading as reading
-use Rattle.first_form.specs.Reading.{Outcome, Parser, and_then, ◌>>=◌, ◌>>◌, pure, sees, eat, expect, term_operator, sum_operator, sign, next_operator, after_operator, signed, digits, number, sees_digit, alphanumerics, name, more_operands, operand, primary, term, sum, sum_within, more_members, members, declaration, declarations, item_of, items, assignment, body, whole_of, statement_of}
-use Rattle.first_form.specs.Trees.{variable, element, bound_to, declared, integers}
+use Rattle.first_form.specs.Reading.{Outcome, Parser, and_then, ◌>>=◌, ◌>>◌, pure, sees, eat, expect, term_operator, sum_operator, sign, next_operator, after_operator, signed, digits, number, sees_digit, label, alphanumerics, name, more_operands, operand, primary, term, sum, sum_within, more_members, members, declaration, declarations, item_of, items, assignment, body, whole_of, loop_of, statement_of}
+use Rattle.first_form.specs.Trees.{variable, element, bound_to, declared, integers, do_of}
 use Rattle.first_form.proofs.Numbers.{number_is}
-use Rattle.first_form.proofs.Sound.{read_is_spelled}
+use Rattle.first_form.proofs.LabelLemmas.{label_parts}
+use Rattle.first_form.proofs.Sound.{LoopRead, loop_read, read_is_spelled}
 use Rattle.first_form.proofs.Turns.{no_turn, one_turn}
 
 bind : {A B : Type 0} (o : Outcome A) (f : A → Parser B) (a : A) (j : Text) → o ≡ Some (a, j) → and_then o f ≡ f a j
@@ -144,6 +148,22 @@ name_no_sign n r h =
 
 digit_here : (s r : Text) → IsDigits s → sees_digit (s ++ r) ≡ true
 digit_here s r d = let f = first_digit s d.0 d.1 in rw f.2 f.3
+
+-- ---- labels
+
+label_read : (s r : Text) → IsTrue (is_label s) → digits r ≡ 0 → label (s ++ r) ≡ Some (value_of s, r)
+unfolding label
+label_read s r h none =
+    let e : is_label s ≡ true = h in
+    rw (digits_of s r (label_parts s h).all none, take_all s r, drop_all s r, e) refl
+
+-- no digit begins a name
+name_digits : (n r : Text) → IsName n → digits (n ++ r) ≡ 0
+name_digits n r h = let f = name_parts n h in rw f.whole (by f.first f.letter (is_ascii_digit f.first) refl)
+  where
+    by : (c : ℕ) → is_letter c ≡ true → (t : Bool) → is_ascii_digit c ≡ t → digits (c ∷ ((name_parts n h).rest ++ r)) ≡ 0
+    by c good false e = rw e refl
+    by c good true e = absurd (grind (arith, e, good))
 
 -- ---- what may follow a primary
 
@@ -411,7 +431,7 @@ unfolding items
 items_read all s d h lt = bind (members (item_of (sum_within d)) s) (λ all. pure (stmt.Print all)) all [] (members_read (item_of (sum_within d)) SpellsItem d (item_member d) all s h lt)
 
 print_step : (all : List Item) (s : Text) → SpellsMembers SpellsItem all s → Read (stmt.Print all) (codes "PRINT*," ++ s)
-unfolding statement_of body
+unfolding statement_of loop_of body
 print_step all s h = ap whole_of (items_read all s (length (codes "PRINT*," ++ s)) h (omega arith))
 
 declarations_read : (all : List TypedDeclarator) (s : Text) → SpellsMembers SpellsDeclaration all s → declarations s ≡ Some (integers all, [])
@@ -419,7 +439,7 @@ unfolding declarations
 declarations_read all s h = bind (members declaration s) (λ all. pure (integers all)) all [] (members_read declaration SpellsDeclaration (suc (length s)) (declaration_member (suc (length s))) all s h (omega arith))
 
 declare_step : (all : List TypedDeclarator) (s : Text) → SpellsMembers SpellsDeclaration all s → Read (integers all) (codes "INTEGER" ++ s)
-unfolding statement_of body
+unfolding statement_of loop_of body
 declare_step all s h = ap whole_of (declarations_read all s h)
 
 -- what stands behind the letters and digits at the beginning of a text
@@ -464,6 +484,9 @@ isnt a b different = by (bytes_eq a b) refl
 pub not_end : (text : Text) → NameFirst text → bytes_eq text (codes "END") ≡ false
 not_end text f = isnt text (codes "END") (λ e. let k : [] ≡ f.next ∷ f.rest = ap Behind (sym e) ∙ f.behind in cc)
 
+not_continue : (text : Text) → NameFirst text → bytes_eq text (codes "CONTINUE") ≡ false
+not_continue text f = isnt text (codes "CONTINUE") (λ e. let k : [] ≡ f.next ∷ f.rest = ap Behind (sym e) ∙ f.behind in cc)
+
 behind_word : (word text : Text) → take 7 text ≡ word → text ≡ word ++ drop 7 text
 behind_word word text e = sym (take-append-drop 7 text) ∙ ap (λ x. x ++ drop 7 text) e
 
@@ -487,12 +510,101 @@ assignment_read a x s t d h g le lt =
     bind (reading.reference (sum_within d) (s ++ 61 ∷ t)) (λ target. expect 61 >> (sum_within d >>= (λ value. pure (stmt.Assign target value)))) a (61 ∷ t) (h d le (61 ∷ t) (record { word = refl; subscript = refl }))
     ∙ bind (sum_within d t) (λ value. pure (stmt.Assign a value)) x [] (ap (sum_within d) (sym (append-nil t)) ∙ sum_read x t g d lt [] nothing refl refl)
 
+-- ---- DO statements
+
+control_read : (l n : Text) (a b : Expr) (s t : Text) (d : ℕ) → IsTrue (is_label l) → IsName n → Complete Sum a s → Complete Sum b t → length s < d → length t < d
+    → reading.loop (sum_within d) (l ++ (n ++ 61 ∷ (s ++ 44 ∷ t))) ≡ Some (do_of (value_of l) n a b, [])
+unfolding reading.loop
+control_read l n a b s t d k h f g lt le =
+    bind (label (l ++ (n ++ 61 ∷ (s ++ 44 ∷ t)))) (λ l. name >>= (λ n. expect 61 >> (sum_within d >>= (λ first. expect 44 >> (sum_within d >>= (λ last. pure (do_of l n first last))))))) (value_of l) (n ++ 61 ∷ (s ++ 44 ∷ t)) (label_read l (n ++ 61 ∷ (s ++ 44 ∷ t)) k (name_digits n (61 ∷ (s ++ 44 ∷ t)) h))
+    ∙ bind (name (n ++ 61 ∷ (s ++ 44 ∷ t))) (λ n. expect 61 >> (sum_within d >>= (λ first. expect 44 >> (sum_within d >>= (λ last. pure (do_of (value_of l) n first last)))))) n (61 ∷ (s ++ 44 ∷ t)) (name_read n (61 ∷ (s ++ 44 ∷ t)) h refl)
+    ∙ bind (sum_within d (s ++ 44 ∷ t)) (λ first. expect 44 >> (sum_within d >>= (λ last. pure (do_of (value_of l) n first last)))) a (44 ∷ t) (sum_read a s f d lt (44 ∷ t) (comma t) refl refl)
+    ∙ bind (sum_within d t) (λ last. pure (do_of (value_of l) n a last)) b [] (ap (sum_within d) (sym (append-nil t)) ∙ sum_read b t g d le [] nothing refl refl)
+
+loop_step : (l n : Text) (a b : Expr) (s t : Text) → IsTrue (is_label l) → IsName n → Complete Sum a s → Complete Sum b t → Read (do_of (value_of l) n a b) (codes "DO" ++ (l ++ (n ++ 61 ∷ (s ++ 44 ∷ t))))
+unfolding statement_of loop_of
+loop_step l n a b s t k h f g =
+    let text : Text = codes "DO" ++ (l ++ (n ++ 61 ∷ (s ++ 44 ∷ t))) in
+    let x = length-append l (n ++ 61 ∷ (s ++ 44 ∷ t)) in
+    let y = length-append n (61 ∷ (s ++ 44 ∷ t)) in
+    let z = length-append s (44 ∷ t) in
+    ap (λ o. option_or (whole_of o) (whole_of (body (sum_within (length text)) text))) (control_read l n a b s t (length text) k h f g (omega arith) (omega arith))
+
+continue_step : Read stmt.Continue (codes "CONTINUE")
+unfolding statement_of
+continue_step = refl
+
+-- ---- an assignment is no DO statement
+
+digits_alphanumeric : (s : Text) → list_all is_ascii_digit s ≡ true → list_all is_alphanumeric s ≡ true
+digits_alphanumeric [] e = refl
+digits_alphanumeric (c ∷ s) e =
+    let p = and_parts (is_ascii_digit c) (list_all is_ascii_digit s) e in
+    let h : is_alphanumeric c ≡ true = grind (arith, p.0) in
+    and_from (is_alphanumeric c) (list_all is_alphanumeric s) h (digits_alphanumeric s p.1)
+
+-- what stands behind letters and digits
+behind_of : (w : Text) (b : ℕ) (r : Text) → list_all is_alphanumeric w ≡ true → alphanumerics (b ∷ r) ≡ 0 → Behind (w ++ b ∷ r) ≡ b ∷ r
+behind_of w b r all none = let l = alphanumerics_of w (b ∷ r) all none in rw l (drop_all w (b ∷ r))
+
+behind_loop : (l n z : Text) → IsTrue (is_label l) → IsName n → Behind (codes "DO" ++ (l ++ (n ++ 61 ∷ z))) ≡ 61 ∷ z
+behind_loop l n z k h =
+    let all : list_all is_alphanumeric (l ++ n) ≡ true = list_all-append is_alphanumeric l n ∙ and_from (list_all is_alphanumeric l) (list_all is_alphanumeric n) (digits_alphanumeric l (label_parts l k).all) (name_parts n h).all in
+    ap (λ x. Behind (codes "DO" ++ x)) (sym (append_assoc l n (61 ∷ z))) ∙ behind_of (codes "DO" ++ (l ++ n)) 61 z all refl
+
+-- what stands behind the first name of a reference before `=`
+behind_reference : {a : Ref} {s : Text} → SpellsReference a s → (t : Text) → (Behind (s ++ 61 ∷ t) ≡ 61 ∷ t) ⊎ ((r : Text) × (Behind (s ++ 61 ∷ t) ≡ 40 ∷ r))
+behind_reference (spelling.name n h) t = inl (behind_of n 61 t (name_parts n h).all refl)
+behind_reference (subscripted {s = s} n h g) t = inr ((s ++ 41 ∷ []) ++ 61 ∷ t, ap Behind (append_assoc n (40 ∷ (s ++ 41 ∷ [])) (61 ∷ t)) ∙ behind_of n 40 ((s ++ 41 ∷ []) ++ 61 ∷ t) (name_parts n h).all refl)
+
+-- the text after what is read
+abbrev left_behind : Outcome Expr → Text
+left_behind (Some p) = p.1
+left_behind None = []
+
+-- a sum goes on where a sum and a comma come first
+two_sums : (a b : Expr) (s t : Text) → Complete Sum a (s ++ 44 ∷ t) → Complete Sum b s → ⊥
+two_sums a b s t h g =
+    let d : ℕ = suc (length (s ++ 44 ∷ t)) in
+    let l = length-append s (44 ∷ t) in
+    let one : sum_within d (s ++ 44 ∷ t) ≡ Some (a, []) = ap (sum_within d) (sym (append-nil (s ++ 44 ∷ t))) ∙ sum_read a (s ++ 44 ∷ t) h d (omega arith) [] nothing refl refl in
+    let other : sum_within d (s ++ 44 ∷ t) ≡ Some (b, 44 ∷ t) = sum_read b s g d (omega arith) (44 ∷ t) (comma t) refl refl in
+    let e : [] ≡ 44 ∷ t = ap left_behind (sym one ∙ other) in
+    cc
+
+loop_whole : (text : Text) (one : Stmt) (l : LoopRead text one) → text ≡ codes "DO" ++ (l.parts.label ++ (l.parts.name ++ 61 ∷ (l.parts.low ++ 44 ∷ l.parts.high)))
+loop_whole text one l = l.word ∙ ap (λ y. codes "DO" ++ y) (l.parts.whole ∙ append-nil (l.parts.label ++ (l.parts.name ++ 61 ∷ (l.parts.low ++ 44 ∷ l.parts.high))))
+
+loop_behind : (text l n z : Text) → IsTrue (is_label l) → IsName n → text ≡ codes "DO" ++ (l ++ (n ++ 61 ∷ z)) → Behind text ≡ 61 ∷ z
+loop_behind text l n z k h e = ap Behind e ∙ behind_loop l n z k h
+
+same_behind : (text t z : Text) → Behind text ≡ 61 ∷ z → (Behind text ≡ 61 ∷ t) ⊎ ((r : Text) × (Behind text ≡ 40 ∷ r)) → t ≡ z
+same_behind text t z e (inl f) = let k : 61 ∷ t ≡ 61 ∷ z = sym f ∙ e in cc
+same_behind text t z e (inr f) = let k : 40 ∷ f.0 ≡ 61 ∷ z = sym f.1 ∙ e in cc
+
+sums_differ : (x first : Expr) (t low high : Text) → Spells Sum x t → Spells Sum first low → t ≡ low ++ 44 ∷ high → ⊥
+sums_differ x first t low high g f e = two_sums x first low high (subst (Complete Sum x) e (complete g)) (complete f)
+
+no_loop_of : (a : Ref) (x : Expr) (s t : Text) → SpellsReference a s → Spells Sum x t → (one : Stmt) → LoopRead (s ++ 61 ∷ t) one → ⊥
+no_loop_of a x s t h g one l =
+    sums_differ x l.parts.first t l.parts.low l.parts.high g l.parts.spells_first
+    (same_behind (s ++ 61 ∷ t) t (l.parts.low ++ 44 ∷ l.parts.high)
+    (loop_behind (s ++ 61 ∷ t) l.parts.label l.parts.name (l.parts.low ++ 44 ∷ l.parts.high) l.parts.is_label l.parts.is_name (loop_whole (s ++ 61 ∷ t) one l))
+    (behind_reference h t))
+
+no_loop_by : (a : Ref) (x : Expr) (s t : Text) → SpellsReference a s → Spells Sum x t → (o : Option Stmt) → loop_of (s ++ 61 ∷ t) ≡ o → o ≡ None
+no_loop_by a x s t h g None e = refl
+no_loop_by a x s t h g (Some one) e = absurd (no_loop_of a x s t h g one (loop_read (s ++ 61 ∷ t) one e))
+
+no_loop : (a : Ref) (x : Expr) (s t : Text) → SpellsReference a s → Spells Sum x t → loop_of (s ++ 61 ∷ t) ≡ None
+no_loop a x s t h g = no_loop_by a x s t h g (loop_of (s ++ 61 ∷ t)) refl
+
 assign_step : (a : Ref) (x : Expr) (s t : Text) → SpellsReference a s → Spells Sum x t → Read (stmt.Assign a x) (s ++ 61 ∷ t)
 unfolding statement_of body
 assign_step a x s t h g =
     let f = reference_first h t in
     let l = length-append s (61 ∷ t) in
-    rw (not_end (s ++ 61 ∷ t) f, not_print (s ++ 61 ∷ t) f, not_integer (s ++ 61 ∷ t) f)
+    rw (not_end (s ++ 61 ∷ t) f, not_continue (s ++ 61 ∷ t) f, no_loop a x s t h g, not_print (s ++ 61 ∷ t) f, not_integer (s ++ 61 ∷ t) f)
     (ap whole_of (assignment_read a x s t (length (s ++ 61 ∷ t)) (complete_reference h) (complete g) (omega arith) (omega arith)))
 
 end_step : Read stmt.End (codes "END")
@@ -503,6 +615,8 @@ pub spelled_is_read : (text : Text) (s : Stmt) → SpellsLine text s → stateme
 spelled_is_read _ _ (print {items = all} {s = s} h) = print_step all s h
 spelled_is_read _ _ (declare {entities = all} {s = s} h) = declare_step all s h
 spelled_is_read _ _ (assign {r = r} {a = a} {s = s} {t = t} h g) = assign_step r a s t h g
+spelled_is_read _ _ (spelling.loop {a = a} {b = b} {s = s} {t = t} l n k h f g) = loop_step l n a b s t k h (complete f) (complete g)
+spelled_is_read _ _ spelling.continue = continue_step
 spelled_is_read _ _ end = end_step
 
 pub one_statement : (text : Text) (one other : Stmt) → SpellsLine text one → SpellsLine text other → one ≡ other

@@ -2,12 +2,16 @@ pub mod Accepted
 pub mod Admits
 pub mod Complete
 pub mod Firsts
+pub mod LabelLemmas
 pub mod Layouts
 pub mod LineLemmas
 pub mod MemberTurns
 pub mod NameLemmas
+pub mod Nesting
 pub mod Numbers
+pub mod RangeLemmas
 pub mod Resolves
+pub mod RunningLemmas
 pub mod Scans
 pub mod Sound
 pub mod SoundPrograms

@@ -21,7 +21,7 @@ use Rattle.f77_ast.specs.declared.specification.Bound.{Bound}
 use Rattle.f77_ast.specs.declared.specification.Declarator.{Declarator}
 use Rattle.f77_ast.specs.declared.stmt.Item.{Item}
 use Rattle.f77_ast.specs.declared.stmt.Stmt.{Stmt}
-use Rattle.f77_meaning.specs.Sound.{resolves, ref_resolves, resolves_step, resolves_part, resolves_ref, items_resolve, statement_resolves}
+use Rattle.f77_meaning.specs.Sound.{resolves, ref_resolves, resolves_step, resolves_part, resolves_ref, resolves_to, items_resolve, statement_resolves}
 use Rattle.f77_meaning.specs.Storage.{is_scalar, is_vector}
 use Rattle.first_form.specs.declared.names.Mention.{Mention}
 use Rattle.first_form.specs.FirstForm.{layout_of}
@@ -92,6 +92,10 @@ module _ (layout : Layout) where
   variable_by n None e h = cc
   variable_by n (Some entity) e h = fold-roll-Ref Bool (Unit {0}) Bool resolves_step resolves_part (resolves_ref layout 0) (record { name = n; args = None; part = None }) ∙ rw e h
 
+  scalar_by : (o : Option Entity) → good_by o false ≡ true → resolves_to o None ≡ true
+  scalar_by None h = cc
+  scalar_by (Some entity) h = h
+
   element_by : (n : List ℕ) (a : Expr) (o : Option Entity) → entity_in layout.entities 0 n ≡ o → good_by o true ≡ true → resolves layout 0 a ≡ true → ref_resolves layout 0 (element n a) ≡ true
   element_by n a None e h g = cc
   element_by n a (Some entity) e h g = fold-roll-Ref Bool (Unit {0}) Bool resolves_step resolves_part (resolves_ref layout 0) (record { name = n; args = Some (a ∷ []); part = None }) ∙ rw e (and_from (is_vector entity.bounds) (resolves layout 0 a) h g)
@@ -144,6 +148,13 @@ module _ (layout : Layout) where
   action_resolves (assign {r = r} {a = a} h k) g =
       let p = both (names_in_reference r) (names_in a) g in
       and_from (ref_resolves layout 0 r) (resolves layout 0 a) (reference_resolves h p.0) (tree_resolves k p.1)
+  action_resolves (form.loop {a = a} {b = b} label n least greatest named h k) g =
+      let p = and_parts (good (Alone n)) (list_all good (names_in a ++ (names_in b ++ []))) g in
+      let q = both (names_in a) (names_in b ++ []) p.1 in
+      let u = both (names_in b) [] q.1 in
+      and_from (resolves_to (entity_in layout.entities 0 n) None) (resolves layout 0 a && (resolves layout 0 b && true)) (scalar_by (entity_in layout.entities 0 n) p.0)
+      (and_from (resolves layout 0 a) (resolves layout 0 b && true) (tree_resolves h q.0) (and_from (resolves layout 0 b) true (tree_resolves k u.0) refl))
+  action_resolves form.continue g = refl
   action_resolves (print h) g = items_resolving h g
 
 -- ---- names that keep the rules

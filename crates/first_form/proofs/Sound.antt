@@ -3,7 +3,8 @@ use Rattle.std.proofs.Common.{◌≡◌, ℕ, zero, suc, ◌<◌, ◌^◌, pos, 
 use Rattle.std.proofs.lemmas.Bool.{eqb-true, and_parts, ltb-true}
 use Rattle.std.proofs.lemmas.List.{append_assoc, append-nil, take-append-drop}
 use Rattle.std.proofs.lemmas.Slice.Eq.{bytes_eq-Decides}
-use Rattle.std.specs.Prelude.{codes}
+use Rattle.std.specs.Option.{option_or}
+use Rattle.std.specs.Prelude.{codes, IsTrue}
 use Rattle.std.specs.Str.{bytes_eq}
 use Rattle.hyb_base.specs.Decimal.{IsDigits, value_of}
 use Rattle.f77_ast.specs.Name.{IsName, is_name}
@@ -14,11 +15,12 @@ use Rattle.f77_ast.specs.declared.expr.Op.TheVariants as op
 use Rattle.f77_ast.specs.declared.expr.Ref.{Ref}
 use Rattle.f77_ast.specs.declared.stmt.Stmt.{Stmt}
 use Rattle.f77_ast.specs.declared.stmt.Stmt.TheVariants as stmt
+use Rattle.first_form.specs.Labels.{is_label}
 use Rattle.first_form.specs.Spelling.{Text, Level, Sum, Term, Primary, Spells, reference, parentheses, single, product, quotient, unsigned, plus, minus, addition, subtraction, SpellsReference, subscripted, SpellsItem, plain, SpellsDeclaration, scalar, array, SpellsMembers, last, more, SpellsLine, print, declare, assign, end}
 use Rattle.first_form.specs.Spelling as spelling
 use Rattle.first_form.specs.Reading as reading
-use Rattle.first_form.specs.Reading.{Outcome, Parser, and_then, ◌>>=◌, ◌>>◌, pure, eat, expect, term_operator, sum_operator, sign, after_operator, operator, on_operator, signed, digits, is_number, number, sees_digit, alphanumerics, name, more_operands, operand, primary, term, sum, sum_within, more_members, members, declaration, declarations, item_of, items, assignment, body, whole_of, statement_of}
-use Rattle.first_form.specs.Trees.{variable, element, bound_to, declared}
+use Rattle.first_form.specs.Reading.{Outcome, Parser, and_then, ◌>>=◌, ◌>>◌, pure, eat, expect, term_operator, sum_operator, sign, after_operator, operator, on_operator, signed, digits, is_number, number, sees_digit, alphanumerics, name, more_operands, operand, primary, term, sum, label, sum_within, more_members, members, declaration, declarations, item_of, items, assignment, body, whole_of, loop_of, statement_of}
+use Rattle.first_form.specs.Trees.{variable, element, bound_to, declared, do_of}
 use Rattle.first_form.proofs.Numbers.{digits_all}
 
 -- what holds of an item and of the text after it, where one is read
@@ -141,6 +143,18 @@ name_sound i = by (is_name (take (alphanumerics i) i)) refl
     by false e = tt
     by true e = (sym (take-append-drop (alphanumerics i) i), e)
 
+-- a label comes first
+abbrev BeginsLabel : Text → ℕ → Text → Type 0
+BeginsLabel i l r = (s : Text) × (i ≡ s ++ r) × IsTrue (is_label s) × (l ≡ value_of s)
+
+label_sound : (i : Text) → Holds (BeginsLabel i) (label i)
+unfolding label
+label_sound i = by (is_label (take (digits i) i)) refl
+  where
+    by : (t : Bool) → is_label (take (digits i) i) ≡ t → Holds (BeginsLabel i) (if t then Some (value_of (take (digits i) i), drop (digits i) i) else None)
+    by false e = tt
+    by true e = (take (digits i) i, sym (take-append-drop (digits i) i), e, refl)
+
 -- what was read, and more
 abbrev Longer : Level → Text → Text → Expr → Text → Type 0
 Longer l s i x r = (t : Text) × (s ++ i ≡ t ++ r) × Spells l x t
@@ -244,7 +258,52 @@ declarations_sound : (i : Text) → Holds (Behind (codes "INTEGER") i) (declarat
 unfolding declarations
 declarations_sound i = holds_bind (members declaration i) _ (BeginsAs (SpellsMembers SpellsDeclaration) i) (Behind (codes "INTEGER") i) (members_sound declaration SpellsDeclaration declaration_sound i) (λ all r h. (h.0, h.1, declare h.2))
 
+-- the parts of a DO statement behind `DO`
+pub record LoopText (i : Text) (one : Stmt) (r : Text) : Type 0 where
+  pub label : Text
+  pub name : Text
+  pub first : Expr
+  pub last : Expr
+  pub low : Text
+  pub high : Text
+  pub is_label : IsTrue (is_label label)
+  pub is_name : IsName name
+  pub spells_first : Spells Sum first low
+  pub spells_last : Spells Sum last high
+  pub whole : i ≡ (label ++ (name ++ 61 ∷ (low ++ 44 ∷ high))) ++ r
+  pub is : one ≡ do_of (value_of label) name first last
+
+pub loop_spelled : (i : Text) (one : Stmt) (r : Text) → LoopText i one r → Behind (codes "DO") i one r
+loop_spelled i one r l = (
+  l.label ++ (l.name ++ 61 ∷ (l.low ++ 44 ∷ l.high)),
+  l.whole,
+  subst (SpellsLine (codes "DO" ++ (l.label ++ (l.name ++ 61 ∷ (l.low ++ 44 ∷ l.high))))) (sym l.is) (spelling.loop l.label l.name l.is_label l.is_name l.spells_first l.spells_last),
+)
+
 module _ (inner : Parser Expr) (sound : Sound inner Sum) where
+  loop_sound : (i : Text) → Holds (LoopText i) (reading.loop inner i)
+  unfolding reading.loop
+  loop_sound i = holds_bind (label i) _ (BeginsLabel i) (LoopText i) (label_sound i) (λ l j b.
+      holds_bind (name j) _ (BeginsName j) (LoopText i) (name_sound j) (λ n k c.
+      holds_bind (expect 61 k) _ (λ u m. k ≡ 61 ∷ m) (LoopText i) (expects 61 k) (λ u m d.
+      holds_bind (inner m) _ (Begins Sum m) (LoopText i) (sound m) (λ first o f.
+      holds_bind (expect 44 o) _ (λ u p. o ≡ 44 ∷ p) (LoopText i) (expects 44 o) (λ u p g.
+      holds_bind (inner p) _ (Begins Sum p) (LoopText i) (sound p) (λ last r h.
+      record {
+        label = b.0;
+        name = n;
+        first = first;
+        last = last;
+        low = f.0;
+        high = h.0;
+        is_label = b.2;
+        is_name = c.1;
+        spells_first = f.2;
+        spells_last = h.2;
+        whole = b.1 ∙ ap (λ x. b.0 ++ x) (c.0 ∙ joins n (f.0 ++ 44 ∷ h.0) r k m 61 d (f.1 ∙ joins f.0 h.0 r o p 44 g h.1)) ∙ sym (append_assoc b.0 (n ++ 61 ∷ (f.0 ++ 44 ∷ h.0)) r);
+        is = ap (λ x. do_of x n first last) b.3;
+      }))))))
+
   item_sound : (i : Text) → Holds (BeginsAs SpellsItem i) (item_of inner i)
   unfolding item_of
   item_sound i = holds_bind (inner i) _ (Begins Sum i) (BeginsAs SpellsItem i) (sound i) (λ a r h. (h.0, h.1, plain h.2))
@@ -280,13 +339,50 @@ whole_sound text (Some (one, [])) s h e =
     rw (t, ← k) h.2
 whole_sound text (Some (one, b ∷ r)) s h e = cc
 
+-- a DO statement that is read, by its parts
+pub record LoopRead (text : Text) (one : Stmt) : Type 0 where
+  pub rest : Text
+  pub word : text ≡ codes "DO" ++ rest
+  pub parts : LoopText rest one []
+
+whole_loop : (rest : Text) (o : Outcome Stmt) (s : Stmt) → Holds (LoopText rest) o → whole_of o ≡ Some s → LoopText rest s []
+whole_loop rest None s h e = cc
+whole_loop rest (Some (one, [])) s h e = let k : one ≡ s = cc in subst (λ x. LoopText rest x []) k h
+whole_loop rest (Some (one, b ∷ r)) s h e = cc
+
+pub loop_read : (text : Text) (s : Stmt) → loop_of text ≡ Some s → LoopRead text s
+unfolding loop_of
+loop_read text s e = by (bytes_eq (take 2 text) (codes "DO")) refl e
+  where
+    by : (p : Bool) → bytes_eq (take 2 text) (codes "DO") ≡ p → (if p then whole_of (reading.loop (sum_within (length text)) (drop 2 text)) else None) ≡ Some s → LoopRead text s
+    by true f e = record {
+      rest = drop 2 text;
+      word = sym (take-append-drop 2 text) ∙ ap (λ x. x ++ drop 2 text) ((bytes_eq-Decides (take 2 text) (codes "DO")).0 f);
+      parts = whole_loop (drop 2 text) (reading.loop (sum_within (length text)) (drop 2 text)) s (loop_sound (sum_within (length text)) (within_sound (length text)) (drop 2 text)) e;
+    }
+    by false f e = cc
+
+loop_line : (text : Text) (s : Stmt) → LoopRead text s → SpellsLine text s
+loop_line text s l =
+    let b = loop_spelled l.rest s [] l.parts in
+    let t : text ≡ codes "DO" ++ b.0 = l.word ∙ ap (λ x. codes "DO" ++ x) (b.1 ∙ append-nil b.0) in
+    rw t b.2
+
+other_read : (text : Text) (s : Stmt) (o : Option Stmt) → loop_of text ≡ o → option_or o (whole_of (body (sum_within (length text)) text)) ≡ Some s → SpellsLine text s
+other_read text s (Some one) f e = let k : one ≡ s = cc in loop_line text s (loop_read text s (f ∙ ap (λ x. Some x) k))
+other_read text s None f e = whole_sound text (body (sum_within (length text)) text) s (body_sound (sum_within (length text)) (within_sound (length text)) text) e
+
 pub read_is_spelled : (text : Text) (s : Stmt) → statement_of text ≡ Some s → SpellsLine text s
 unfolding statement_of
-read_is_spelled text s e = by (bytes_eq text (codes "END")) refl e
+read_is_spelled text s e = by (bytes_eq text (codes "END")) (bytes_eq text (codes "CONTINUE")) refl refl e
   where
-    by : (p : Bool) → bytes_eq text (codes "END") ≡ p → (if p then Some stmt.End else whole_of (body (sum_within (length text)) text)) ≡ Some s → SpellsLine text s
-    by true f e =
+    by : (p q : Bool) → bytes_eq text (codes "END") ≡ p → bytes_eq text (codes "CONTINUE") ≡ q → (if p then Some stmt.End else (if q then Some stmt.Continue else option_or (loop_of text) (whole_of (body (sum_within (length text)) text)))) ≡ Some s → SpellsLine text s
+    by true q f g e =
         let t : text ≡ codes "END" = (bytes_eq-Decides text (codes "END")).0 f in
         let k : stmt.End ≡ s = cc in
         rw (t, ← k) end
-    by false f e = whole_sound text (body (sum_within (length text)) text) s (body_sound (sum_within (length text)) (within_sound (length text)) text) e
+    by false true f g e =
+        let t : text ≡ codes "CONTINUE" = (bytes_eq-Decides text (codes "CONTINUE")).0 g in
+        let k : stmt.Continue ≡ s = cc in
+        rw (t, ← k) spelling.continue
+    by false false f g e = other_read text s (loop_of text) refl e

@@ -28,6 +28,7 @@ use Rattle.first_form.specs.Rules.{storage_limit, has_elements, declares_first, 
 use Rattle.first_form.specs.Sound.{IsDeclare, declare, IsAction, AreDeclaresActionsEnd}
 use Rattle.first_form.proofs.Accepted.{Rules, rules_of, form_of, ruled_accepted}
 use Rattle.first_form.proofs.Admits.{names_kept, Standing}
+use Rattle.first_form.proofs.Nesting.{ranges_nest}
 use Rattle.first_form.proofs.Resolves.{good, action_resolves, standing_sized, all_good}
 
 -- ---- storage
@@ -124,6 +125,8 @@ lines_sound lines r ended =
     one_unit_is_sound (program_of lines) _ (f.declares ++ f.actions) f.last refl (f.joined ∙ sym (append_assoc f.declares f.actions (f.last ∷ []))) f.is_end
     (all_resolve (layout_of (names_of (statements_of (listing_of 1 lines)))) (listing_of 1 lines) (formed_all (listing_of 1 lines) f) (all_good (declarations (statements_of (listing_of 1 lines))) (mentions (statements_of (listing_of 1 lines))) k))
     (laid_out (names_of (statements_of (listing_of 1 lines))) sized k.small)
+    refl
+    (ranges_nest (listing_of 1 lines) (f.declares ++ f.actions) f.last (f.joined ∙ sym (append_assoc f.declares f.actions (f.last ∷ []))) f.is_end r.ranged)
 
 ruled_sound : (lines : List (List ℕ)) (program : Program) → ruled_of (first_break lines) lines ≡ Ok program → IsSound program
 ruled_sound lines program e = let a = ruled_accepted (first_break lines) lines program refl e in subst IsSound a.is (lines_sound a.lines (rules_of a.lines a.keeps) a.ended)

@@ -1,5 +1,5 @@
--- Which files are programs so far: lines of INTEGER, then lines of assignments and PRINTs, and END as the last. Every other
--- line is refused until its statement is built.
+-- Which files are programs so far: lines of INTEGER, then lines of assignments, DO statements with their CONTINUEs and
+-- PRINTs, and END as the last. Every other line is refused until its statement is built.
 use Rattle.std.specs.Prelude.{ℕ, zero, suc, ◌+◌, pos, max, map, replicate, Bool, true, false, not, ◌&&◌, nat_le, List, [], ◌∷◌, length, take, codes, Option, None, Some, Result, Ok, Err, if◌then◌else◌}
 use Rattle.std.specs.List.{list_all}
 use Rattle.std.specs.Option.{is_some}
@@ -8,11 +8,14 @@ use Rattle.f77_ast.specs.declared.refusal.Refusal.{Refusal}
 use Rattle.f77_ast.specs.declared.program.Listed.{Listed}
 use Rattle.f77_ast.specs.declared.program.Layout.{Layout}
 use Rattle.f77_ast.specs.declared.program.Program.{Program}
+use Rattle.f77_ast.specs.declared.program.Unit.{Unit as ProgramUnit}
 use Rattle.f77_ast.specs.declared.specification.Declarator.{Declarator}
 use Rattle.f77_ast.specs.declared.stmt.Stmt.{Stmt}
-use Rattle.first_form.specs.Columns.{has_tab, is_in_columns, text_of}
+use Rattle.f77_meaning.specs.Loops.{loops_of}
+use Rattle.first_form.specs.Columns.{has_tab, is_in_columns, label_of, text_of}
 use Rattle.first_form.specs.Lines.{lines_of}
 use Rattle.first_form.specs.Names.{declarations, mentions}
+use Rattle.first_form.specs.Ranges.{ranges_keep}
 use Rattle.first_form.specs.Reading.{statement_of}
 use Rattle.first_form.specs.Rules.{statements_keep}
 use Rattle.first_form.specs.Storage.{appearing, total_units, entities_from, regions_from}
@@ -25,18 +28,18 @@ byte_limit = 1048576
 abbrev pub statement_limit : ℕ
 statement_limit = 10000
 
--- a statement with its card: no label, the line's number, and its text
+-- a statement with its card: the line's label, its number and its text
 abbrev pub listed : ℕ → List ℕ → Stmt → Listed
-listed number text statement = record { card = record { label = None; line = number; text = text }; stmt = statement }
+listed number line statement = record { card = record { label = label_of line; line = number; text = text_of line }; stmt = statement }
 
--- the statement that a text may spell, with its card
+-- the statement that a line's text may spell, with its card
 abbrev pub listed_by : ℕ → List ℕ → Option Stmt → Option Listed
-listed_by number text None = None
-listed_by number text (Some statement) = Some (listed number text statement)
+listed_by number line None = None
+listed_by number line (Some statement) = Some (listed number line statement)
 
 -- the statement of a line, with its card: none where the line isn't in its columns, or its text spells none
 abbrev pub listed_of : ℕ → List ℕ → Option Listed
-listed_of number line = if is_in_columns line then listed_by number (text_of line) (statement_of (text_of line)) else None
+listed_of number line = if is_in_columns line then listed_by number line (statement_of (text_of line)) else None
 
 -- whether a line is in its columns, and its text spells a statement
 abbrev pub is_statement : List ℕ → Bool
@@ -72,7 +75,7 @@ statements_of listing = map (λ one. one.stmt) listing
 
 -- whether these first lines of a file keep the rules
 abbrev pub keeps_rules : List (List ℕ) → Bool
-keeps_rules lines = nat_le (length lines) statement_limit && list_all is_statement lines && ends_once lines && statements_keep (statements_of (listing_of 1 lines))
+keeps_rules lines = nat_le (length lines) statement_limit && list_all is_statement lines && ends_once lines && statements_keep (statements_of (listing_of 1 lines)) && ranges_keep (listing_of 1 lines)
 
 -- the number, from n on, of the first line that passes a test
 abbrev pub first_passing : (List ℕ → Bool) → ℕ → List (List ℕ) → Option ℕ
@@ -107,17 +110,13 @@ layout_of names = record {
   first = replicate (total_units names) (pos 0);
 }
 
--- the program of some statements and their layout: a main unit without a name, and no loop
+-- some statements as the main unit of a file, without a name
+abbrev pub main_of : List Listed → ProgramUnit
+main_of listing = record { name = None; listing = listing; code = record { instrs = []; starts = []; texts = [] } }
+
+-- the program of some statements and their layout: a main unit, and its loops
 abbrev pub program_with : List Listed → Layout → Program
-program_with listing layout = record {
-  units = record {
-    name = None;
-    listing = listing;
-    code = record { instrs = []; starts = []; texts = [] };
-  } ∷ [];
-  layout = layout;
-  loops = [];
-}
+program_with listing layout = record { units = main_of listing ∷ []; layout = layout; loops = loops_of (main_of listing ∷ []) }
 
 -- the program of lines that keep the rules and end in END
 abbrev pub program_of : List (List ℕ) → Program

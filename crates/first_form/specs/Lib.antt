@@ -1,12 +1,16 @@
 pub mod Columns
 pub mod FirstForm
+pub mod Following
+pub mod Labels
 pub mod Laws
 pub mod Lines
 pub mod Names
 pub mod Pass
+pub mod Ranges
 pub mod Read
 pub mod Reading
 pub mod Rules
+pub mod Running
 pub mod Sound
 pub mod Spelling
 pub mod Storage

@@ -1,5 +1,5 @@
 -- The names of statements: those that INTEGER declares, and those that stand in the other statements.
-use Rattle.std.specs.Prelude.{List, [], ◌∷◌, ◌++◌, map, Option, None, Some}
+use Rattle.std.specs.Prelude.{List, [], ◌∷◌, ◌++◌, false, map, Option, None, Some}
 use Rattle.std.specs.List.{flat_map}
 use Rattle.std.specs.Option.{is_some}
 use Rattle.f77_ast.specs.declared.expr.Expr.{Expr}
@@ -9,7 +9,8 @@ use Rattle.f77_ast.specs.declared.expr.Expr.TheFolds.{fold-Expr, fold-Ref}
 use Rattle.f77_ast.specs.declared.expr.Ref.{Ref}
 use Rattle.f77_ast.specs.declared.specification.Declarator.{Declarator}
 use Rattle.f77_ast.specs.declared.stmt.Item.{Item, Plain}
-use Rattle.f77_ast.specs.declared.stmt.Stmt.{Stmt, Declare, Assign, Print}
+use Rattle.f77_ast.specs.declared.stmt.LoopControl.{LoopControl}
+use Rattle.f77_ast.specs.declared.stmt.Stmt.{Stmt, Declare, Assign, Do, Print}
 use Rattle.first_form.specs.declared.names.Mention.{Mention}
 
 -- the names in the subscripts of a reference
@@ -45,9 +46,19 @@ abbrev pub names_in_item : Item → List Mention
 names_in_item (Plain a) = names_in a
 names_in_item _ = []
 
+-- the names in a parameter of a DO statement that may be left out
+abbrev pub names_in_step : Option Expr → List Mention
+names_in_step None = []
+names_in_step (Some a) = names_in a
+
+-- the names in the control of a DO statement: its variable, and those in its parameters
+abbrev pub names_in_control : LoopControl → List Mention
+names_in_control control = record { name = control.variable; subscripted = false } ∷ (names_in control.first ++ (names_in control.last ++ names_in_step control.step))
+
 -- the names that stand in a statement that declares nothing, in the order of its text
 abbrev pub mentioned_in : Stmt → List Mention
 mentioned_in (Assign target value) = names_in_reference target ++ names_in value
+mentioned_in (Do terminal control) = names_in_control control
 mentioned_in (Print items) = flat_map names_in_item items
 mentioned_in _ = []
 

@@ -6,21 +6,29 @@ use Rattle.f77_ast.specs.declared.refusal.Refusal.{Refusal}
 use Rattle.first_form.specs.declared.pass.Pass.{Pass}
 use Rattle.first_form.specs.declared.table.Table.{Table}
 use Rattle.first_form.specs.FirstForm.{statement_limit, listed_of, is_end, program_with, refused}
+use Rattle.first_form.specs.Following.{followed}
+use Rattle.first_form.specs.Ranges.{OpenLoop}
 use Rattle.first_form.specs.Table.{table_of, admitted, laid}
 
 -- before the first line
 abbrev pub begun : Pass
-begun = record { listing = []; table = table_of [] true; ended = false }
+begun = record { listing = []; table = table_of [] true; loops = []; ended = false }
 
--- one statement more, with the table that it makes
-abbrev pub with_table : Option Table → Listed → Pass → Option Pass
-with_table None one p = None
-with_table (Some t) one p = Some (record { listing = p.listing ++ one ∷ []; table = t; ended = is_end one.card.text })
+-- a table and open DO statements, where there are both
+abbrev pub both : Option Table → Option (List OpenLoop) → Option (Table × List OpenLoop)
+both None loops = None
+both (Some t) None = None
+both (Some t) (Some loops) = Some (t, loops)
 
--- one statement more, where there is one and the table takes it
+-- one statement more, with the table and the open DO statements that it leaves
+abbrev pub with_both : Option (Table × List OpenLoop) → Listed → Pass → Option Pass
+with_both None one p = None
+with_both (Some left) one p = Some (record { listing = p.listing ++ one ∷ []; table = left.0; loops = left.1; ended = is_end one.card.text })
+
+-- one statement more, where there is one, the table takes it, and it may stand there
 abbrev pub added : Option Listed → Pass → Option Pass
 added None p = None
-added (Some one) p = with_table (admitted p.table one.stmt) one p
+added (Some one) p = with_both (both (admitted p.table one.stmt) (followed p.loops one)) one p
 
 -- one line more: none behind END or past the limit
 abbrev pub taken : ℕ → Pass → List ℕ → Option Pass

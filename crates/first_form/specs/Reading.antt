@@ -1,6 +1,7 @@
 -- How a statement is read from its text: a function for each rule, which takes what it reads from the front of a text.
 use Rattle.std.specs.Prelude.{ℕ, zero, suc, ◌^◌, pos, Bool, true, false, ◌&&◌, ◌==◌, nat_lt, if◌then◌else◌, List, [], ◌∷◌, ◌++◌, length, take, drop, codes, Option, Some, None}
 use Rattle.std.specs.List.{prefix_len}
+use Rattle.std.specs.Option.{option_or}
 use Rattle.std.specs.Char.{is_ascii_digit}
 use Rattle.std.specs.Str.{bytes_eq}
 use Rattle.hyb_base.specs.Decimal.{value_of}
@@ -15,8 +16,9 @@ use Rattle.f77_ast.specs.declared.stmt.Item.{Item}
 use Rattle.f77_ast.specs.declared.stmt.Item.TheVariants as item
 use Rattle.f77_ast.specs.declared.stmt.Stmt.{Stmt}
 use Rattle.f77_ast.specs.declared.stmt.Stmt.TheVariants as stmt
+use Rattle.first_form.specs.Labels.{is_label}
 use Rattle.first_form.specs.Spelling.{Text}
-use Rattle.first_form.specs.Trees.{variable, element, bound_to, declared, integers}
+use Rattle.first_form.specs.Trees.{variable, element, bound_to, declared, integers, do_of}
 
 -- what is read, and the text after it; none where the text doesn't begin with what is sought
 abbrev pub Outcome : Type 0 → Type 0
@@ -119,6 +121,13 @@ number_by s rest = if is_number s then Some (expr.Int (pos (value_of s)), rest) 
 unfoldable pub number : Parser Expr
 number = λ i. number_by (take (digits i) i) (drop (digits i) i)
 
+abbrev pub label_here : Text → Text → Outcome ℕ
+label_here s rest = if is_label s then Some (value_of s, rest) else None
+
+-- label: 1 to 5 digits, not all 0
+unfoldable pub label : Parser ℕ
+label = λ i. label_here (take (digits i) i) (drop (digits i) i)
+
 -- whether a digit comes next
 abbrev pub sees_digit : Text → Bool
 sees_digit [] = false
@@ -198,6 +207,10 @@ module _ (inner : Parser Expr) where
   unfoldable pub assignment : Parser Stmt
   assignment = reference inner >>= (λ target. expect 61 >> (inner >>= (λ value. pure (stmt.Assign target value))))
 
+  -- what follows `DO`: label name `=` sum `,` sum
+  unfoldable pub loop : Parser Stmt
+  loop = label >>= (λ l. name >>= (λ n. expect 61 >> (inner >>= (λ first. expect 44 >> (inner >>= (λ last. pure (do_of l n first last)))))))
+
   -- `PRINT*,` list(sum); `INTEGER` list(declaration); reference `=` sum
   unfoldable pub body : Parser Stmt
   body = λ i. if bytes_eq (take 7 i) (codes "PRINT*,") then items (drop 7 i) else (if bytes_eq (take 7 i) (codes "INTEGER") then declarations (drop 7 i) else assignment i)
@@ -207,6 +220,12 @@ abbrev pub whole_of : Outcome Stmt → Option Stmt
 whole_of (Some (s, [])) = Some s
 whole_of _ = None
 
+-- the DO statement that a text spells: `DO` label name `=` sum `,` sum
+unfoldable pub loop_of : Text → Option Stmt
+loop_of text = if bytes_eq (take 2 text) (codes "DO") then whole_of (loop (sum_within (length text)) (drop 2 text)) else None
+
 -- the statement that a text spells: no parentheses in it nest deeper than it is long
 unfoldable pub statement_of : Text → Option Stmt
-statement_of text = if bytes_eq text (codes "END") then Some stmt.End else whole_of (body (sum_within (length text)) text)
+statement_of text =
+    if bytes_eq text (codes "END") then Some stmt.End
+    else (if bytes_eq text (codes "CONTINUE") then Some stmt.Continue else option_or (loop_of text) (whole_of (body (sum_within (length text)) text)))

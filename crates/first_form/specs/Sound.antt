@@ -14,7 +14,7 @@ use Rattle.f77_ast.specs.declared.stmt.Item.TheVariants as item
 use Rattle.f77_ast.specs.declared.stmt.Stmt.{Stmt}
 use Rattle.f77_ast.specs.declared.stmt.Stmt.TheVariants as stmt
 use Rattle.f77_meaning.specs.Storage.{IsLaidOut}
-use Rattle.first_form.specs.Trees.{variable, element, bound_to, declared, integers}
+use Rattle.first_form.specs.Trees.{variable, element, bound_to, declared, integers, do_of}
 use Rattle.first_form.specs.FirstForm.{statement_limit, front_of}
 
 mutual
@@ -53,12 +53,14 @@ pub data AreAll {A : Type 0} (Is : A → Type 0) : List A → Type 0 where
 pub data IsDeclare : Stmt → Type 0 where
   declare : {entities : List TypedDeclarator} → AreAll IsDeclaration entities → IsDeclare (integers entities)
 
--- an assignment or a PRINT
+-- an assignment, a DO statement without an increment, a CONTINUE or a PRINT
 pub data IsAction : Stmt → Type 0 where
   assign : {r : Ref} {a : Expr} → IsReference r → IsArithmetic a → IsAction (stmt.Assign r a)
+  loop : {a b : Expr} (label : ℕ) (n : List ℕ) → 1 ≤ label → label ≤ 99999 → IsName n → IsArithmetic a → IsArithmetic b → IsAction (do_of label n a b)
+  continue : IsAction stmt.Continue
   print : {items : List Item} → AreAll IsItem items → IsAction (stmt.Print items)
 
--- INTEGER statements, then assignments and PRINTs, and END as the last
+-- INTEGER statements, then assignments, DO statements, CONTINUEs and PRINTs, and END as the last
 pub record AreDeclaresActionsEnd (listing : List Listed) : Type 0 where
   pub declares : List Listed
   pub actions : List Listed

@@ -1,5 +1,5 @@
 -- Which texts sums, lists of sums, declarations and statements have. A text has no blanks.
-use Rattle.std.specs.Prelude.{ℕ, ◌^◌, ◌<◌, pos, List, [], ◌∷◌, ◌++◌, codes}
+use Rattle.std.specs.Prelude.{ℕ, ◌^◌, ◌<◌, pos, List, [], ◌∷◌, ◌++◌, codes, IsTrue}
 use Rattle.hyb_base.specs.Decimal.{IsDigits, value_of}
 use Rattle.f77_ast.specs.Name.{IsName}
 use Rattle.f77_ast.specs.declared.expr.Expr.{Expr}
@@ -11,7 +11,8 @@ use Rattle.f77_ast.specs.declared.stmt.Item.{Item}
 use Rattle.f77_ast.specs.declared.stmt.Item.TheVariants as item
 use Rattle.f77_ast.specs.declared.stmt.Stmt.{Stmt}
 use Rattle.f77_ast.specs.declared.stmt.Stmt.TheVariants as stmt
-use Rattle.first_form.specs.Trees.{variable, element, bound_to, declared, integers}
+use Rattle.first_form.specs.Labels.{is_label}
+use Rattle.first_form.specs.Trees.{variable, element, bound_to, declared, integers, do_of}
 
 -- the bytes of a text
 abbrev pub Text : Type 0
@@ -78,5 +79,9 @@ pub data SpellsLine : Text → Stmt → Type 0 where
   declare : {entities : List TypedDeclarator} {s : Text} → SpellsMembers SpellsDeclaration entities s → SpellsLine (codes "INTEGER" ++ s) (integers entities)
   -- Assign: reference `=` sum (section 10.1)
   assign : {r : Ref} {a : Expr} {s t : Text} → SpellsReference r s → Spells Sum a t → SpellsLine (s ++ 61 ∷ t) (stmt.Assign r a)
+  -- Do: `DO` label name `=` sum `,` sum (section 11.10)
+  loop : {a b : Expr} {s t : Text} (l n : Text) → IsTrue (is_label l) → IsName n → Spells Sum a s → Spells Sum b t → SpellsLine (codes "DO" ++ (l ++ (n ++ 61 ∷ (s ++ 44 ∷ t)))) (do_of (value_of l) n a b)
+  -- Continue: `CONTINUE` (section 11.11)
+  continue : SpellsLine (codes "CONTINUE") stmt.Continue
   -- End: `END` (section 11.14)
   end : SpellsLine (codes "END") stmt.End

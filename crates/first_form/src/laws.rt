@@ -17,8 +17,8 @@ pub fn law_of_one_statement()
     ensures { NoTextSpellsTwoStatements }
 {}
 
-/// A law: every accepted program has one unit, of INTEGER statements, then assignments and PRINTs of arithmetic trees,
-/// and END as the last statement.
+/// A law: every accepted program has one unit, of INTEGER statements, then assignments, DO statements, CONTINUEs and
+/// PRINTs of arithmetic trees, and END as the last statement.
 pub fn law_of_accepted_programs()
     ensures { AcceptedProgramsAreOfFirstForm }
 {}

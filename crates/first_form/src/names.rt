@@ -6,7 +6,7 @@ ghost use Rattle.first_form.specs.Names as spec;
 
 use f77_ast::expr::{Expr, Ref};
 use f77_ast::name::Name;
-use f77_ast::stmt::{Item, Stmt};
+use f77_ast::stmt::{Item, LoopControl, Stmt};
 use hyb_base::list::List;
 use hyb_base::no_memory::NoMemory;
 use sqlite_items::Items;
@@ -99,6 +99,29 @@ fn names_in_assignment(target: &Ref, value: &Expr, into: &mut Mentions) -> Resul
     names_in(value, into)
 }
 
+/// Adds the names in a parameter of a DO statement that may be left out.
+fn names_in_step(step: &Option<Expr>, into: &mut Mentions) -> Result<(), NoMemory>
+    ensures { OnOk result (into.new ≡ into.old ++ spec.names_in_step step.now) }
+{
+    match step {
+        None => Ok(()),
+        Some(value) => names_in(value, into),
+    }
+}
+
+/// Adds the names in the control of a DO statement: its variable, and those in its parameters.
+fn names_in_control(control: &LoopControl, into: &mut Mentions) -> Result<(), NoMemory>
+    ensures { OnOk result (into.new ≡ into.old ++ spec.names_in_control control.now) }
+{
+    into.push(Mention {
+        name: control.variable.copy(),
+        subscripted: false,
+    })?;
+    names_in(&control.first, into)?;
+    names_in(&control.last, into)?;
+    names_in_step(&control.step, into)
+}
+
 /// The names that stand in a statement that declares nothing, in the order of its text.
 pub fn mentioned_in(alloc: Global, stmt: &Stmt) -> Result<Mentions, NoMemory>
     ensures { IfOk result (λ names. names ≡ spec.mentioned_in stmt.now) }
@@ -106,6 +129,7 @@ pub fn mentioned_in(alloc: Global, stmt: &Stmt) -> Result<Mentions, NoMemory>
     let mut names = Mentions::new(alloc);
     match stmt {
         Stmt::Assign { target, value } => names_in_assignment(target, value, &mut names)?,
+        Stmt::Do { control, .. } => names_in_control(control, &mut names)?,
         Stmt::Print(items) => names_in_items(items.as_slice(), &mut names)?,
         _ => (),
     }

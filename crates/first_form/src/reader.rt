@@ -8,9 +8,11 @@ ghost use Rattle.f77_ast.specs.Name.{is_alphanumeric};
 ghost use Rattle.first_form.specs.Read.{Reads};
 ghost use Rattle.first_form.specs.Reading as spec;
 
+use crate::labels::label_by;
 use crate::unread::Unread;
 use f77_ast::expr::{Expr, Op};
 use f77_ast::name::Name;
+use f77_ast::stmt::Label;
 use std::marker::Model;
 
 /// What is left of a text.
@@ -106,6 +108,20 @@ impl<'a> Reader<'a> {
         }
     }
 
+    /// Takes `DO`, where it comes next.
+    pub fn eat_do(&mut self) -> bool
+        ensures found { result ≡ bytes_eq (take 2 self.old) (codes "DO") }
+        ensures after { self.new ≡ (if bytes_eq (take 2 self.old) (codes "DO") then drop 2 self.old else self.old) }
+    {
+        match self.rest.strip_prefix(b"DO".as_slice()) {
+            Some(rest) => {
+                self.rest = rest;
+                true
+            }
+            None => false,
+        }
+    }
+
     /// Takes the operator between two primaries of a term, where one comes next.
     pub fn term_operator(&mut self) -> Option<Op>
         ensures found { result ≡ spec.next_operator spec.term_operator self.old }
@@ -163,6 +179,22 @@ impl<'a> Reader<'a> {
         }
     }
 
+    /// Takes a label: 1 to 5 digits, not all 0 (ANSI X3.9-1978, section 3.4). None comes next where more digits stand
+    /// there.
+    pub fn label(&mut self) -> Result<Label, Unread>
+        ensures value { Reads (spec.label self.old) result self.new }
+        ensures shorter { length self.new ≤ length self.old }
+    {
+        let (text, rest) = self.rest.split_at(digits(self.rest));
+        match label_by(text) {
+            Some(label) => {
+                self.rest = rest;
+                Ok(label)
+            }
+            None => Err(Unread::Unspelled),
+        }
+    }
+
     /// Takes a name: letters and digits, one to six, the first of which is a letter (ANSI X3.9-1978, section 2.2).
     /// None comes next where more letters and digits stand there.
     pub fn name(&mut self) -> Result<Name, Unread>
@@ -206,7 +238,7 @@ fn digits(text: &[u8]) -> usize
 }
 
 /// The value of digits: none exactly where there is none, or it is past 2^63 - 1.
-fn number_of(digits: &[u8]) -> Option<i64>
+pub fn number_of(digits: &[u8]) -> Option<i64>
     ensures { SomeIff result (IsDigits digits.now × (value_of digits.now < 2 ^ 63)) (pos (value_of digits.now)) }
 {
     if !are_digits(digits) {

@@ -1,4 +1,4 @@
-//! Statements: INTEGER, assignment, PRINT and END.
+//! Statements: INTEGER, assignment, DO, CONTINUE, PRINT and END.
 ghost use Rattle.std.specs.Prelude.{◌≡◌, ◌≤◌, ◌↔◌, length, take, drop, IfOk, Some, if◌then◌else◌};
 ghost use Rattle.std.specs.Str.{bytes_eq};
 ghost use Rattle.f77_ast.specs.declared.stmt.Stmt.{Stmt};
@@ -10,7 +10,7 @@ use crate::declaration::declarations;
 use crate::reader::Reader;
 use crate::sums::{reference, sum_within};
 use crate::unread::Unread;
-use f77_ast::stmt::{Item, Stmt};
+use f77_ast::stmt::{Item, LoopControl, Stmt};
 use hyb_base::no_memory::NoMemory;
 use sqlite_items::Items;
 use std::alloc::Global;
@@ -69,13 +69,45 @@ fn body(alloc: Global, reader: &mut Reader<'_>, depth: usize) -> Result<Stmt, Un
     assignment(alloc, reader, depth)
 }
 
-/// The statement that is read of a text.
-fn read(alloc: Global, text: &[u8]) -> Result<Option<Stmt>, NoMemory>
-    ensures { IfOk result (λ s. s ≡ spec.statement_of text.now) }
+/// What follows `DO`: label name `=` sum `,` sum
+fn control(alloc: Global, reader: &mut Reader<'_>, depth: usize) -> Result<Stmt, Unread>
+    ensures { Reads (spec.loop (spec.sum_within depth) reader.old) result reader.new }
 {
-    if text == b"END".as_slice() {
-        return Ok(Some(Stmt::End));
+    let terminal = reader.label()?;
+    let variable = reader.name()?;
+    reader.expect(b'=')?;
+    let first = sum_within(alloc, reader, depth)?;
+    reader.expect(b',')?;
+    let last = sum_within(alloc, reader, depth)?;
+    let control = LoopControl {
+        variable,
+        first,
+        last,
+        step: None,
+    };
+    Ok(Stmt::Do { terminal, control })
+}
+
+/// The DO statement that is read of a text.
+fn loop_of(alloc: Global, text: &[u8]) -> Result<Option<Stmt>, NoMemory>
+    ensures { IfOk result (λ s. s ≡ spec.loop_of text.now) }
+{
+    let mut reader = Reader::new(text);
+    if !reader.eat_do() {
+        return Ok(None);
     }
+    match control(alloc, &mut reader, text.len()) {
+        Ok(found) if reader.is_empty() => Ok(Some(found)),
+        Ok(_found) => Ok(None),
+        Err(Unread::Unspelled) => Ok(None),
+        Err(Unread::NoMemory) => Err(NoMemory),
+    }
+}
+
+/// Any other statement that is read of a text, but END and CONTINUE.
+fn other_of(alloc: Global, text: &[u8]) -> Result<Option<Stmt>, NoMemory>
+    ensures { IfOk result (λ s. s ≡ spec.whole_of (spec.body (spec.sum_within (length text.now)) text.now)) }
+{
     let mut reader = Reader::new(text);
     match body(alloc, &mut reader, text.len()) {
         Ok(found) if reader.is_empty() => Ok(Some(found)),
@@ -85,9 +117,26 @@ fn read(alloc: Global, text: &[u8]) -> Result<Option<Stmt>, NoMemory>
     }
 }
 
+/// The statement that is read of a text.
+fn read(alloc: Global, text: &[u8]) -> Result<Option<Stmt>, NoMemory>
+    ensures { IfOk result (λ s. s ≡ spec.statement_of text.now) }
+{
+    if text == b"END".as_slice() {
+        return Ok(Some(Stmt::End));
+    }
+    if text == b"CONTINUE".as_slice() {
+        return Ok(Some(Stmt::Continue));
+    }
+    match loop_of(alloc, text)? {
+        Some(found) => Ok(Some(found)),
+        None => other_of(alloc, text),
+    }
+}
+
 /// The statement that a text without blanks spells: `PRINT*,` and one or more sums with commas between, `INTEGER`
-/// and one or more declarations with commas between, an assignment of a sum to a name or an array element, or `END`
-/// (ANSI X3.9-1978, sections 12.8, 8.4.1, 10.1 and 11.14). None exactly where it spells no statement.
+/// and one or more declarations with commas between, an assignment of a sum to a name or an array element, `DO` with
+/// a label, a name, `=` and two sums with a comma between, `CONTINUE`, or `END` (ANSI X3.9-1978, sections 12.8, 8.4.1,
+/// 10.1, 11.10, 11.11 and 11.14). None exactly where it spells no statement.
 pub fn statement(alloc: Global, text: &[u8]) -> Result<Option<Stmt>, NoMemory>
     ensures value { IfOk result (λ s. s ≡ spec.statement_of text.now) }
     ensures spelled { IfOk result (λ s. (one : Stmt) → (s ≡ Some one) ↔ SpellsLine text.now one) }

@@ -3,7 +3,7 @@
 use crate::front::front;
 use crate::statement::statement;
 use f77_ast::expr::{Expr, Op, Ref};
-use f77_ast::program::{Entity, Layout, Place, Program};
+use f77_ast::program::{Entity, Layout, Loop, Place, Program};
 use f77_ast::refusal::{FrontError, Refusal};
 use f77_ast::specification::{Bound, TypedDeclarator};
 use f77_ast::stmt::{Item, Stmt};
@@ -26,12 +26,18 @@ const TREES: &[u8] =
 /// The same of names, array elements, assignments and declarations.
 const NAMES: &[u8] =
     b"PRINT*,A|_A;PRINT*,A(1)|_A{1};PRINT*,A(B(2)+C)*Z9|_(A{(B{2}+C)}*Z9);I=1|I<1;A(I+1)=-A(I)|A{(I+1)}<(-A{I});\
-    END=1|END<1;PRINT=2|PRINT<2;DO10I=1|DO10I<1;INTEGERA|:A;INTEGERA(10),B|:A{10}:B;INTEGERABCDEF,A1(007)|:ABCDEF:A1{7}";
+    END=1|END<1;PRINT=2|PRINT<2;DO10I=1|DO10I<1;DO10I=110|DO10I<110;DO=1|DO<1;DO10=1|DO10<1;INTEGERA|:A;INTEGERA(10),B|:A{10}:B;INTEGERABCDEF,A1(007)|:ABCDEF:A1{7}";
+
+/// The same of DO statements, `label:variable<first,last`, and CONTINUE.
+const LOOPS: &[u8] =
+    b"DO10I=1,2|10:I<1,2;DO00010I1=A(2),-N*3|10:I1<A{2},(-(N*3));DO99999X=(1),(2)|99999:X<[1],[2];DO1DO1=1,1|1:DO1<1,1;\
+    CONTINUE|CONTINUE;CONTIN=1|CONTIN<1;DO10CONT=1,2|10:CONT<1,2;DO10CON=1,2|10:CON<1,2";
 
 /// Texts that spell no statement, likewise: nothing is shown.
 const NO_STATEMENTS: &[u8] =
     b"|;ENDX|;PRINT*|;PRINT*,|;print*,1|;PRINT*,1,|;PRINT*,1_|;PRINT*,--1|;PRINT*,1+-2|;PRINT*,1**2|;\
-    PRINT*,1+|;PRINT*,()|;PRINT*,(1|;PRINT*,1)|;PRINT*,9223372036854775808|";
+    PRINT*,1+|;PRINT*,()|;PRINT*,(1|;PRINT*,1)|;PRINT*,9223372036854775808|;CONTINUEX|;CONTINU|;DO|;DO10I|;DO10I=|;\
+    DO10,I=1,2|;DO10I=1,2,3|;DO10I=,2|;DO10I=1,|;DOI=1,2|;DO10=1,2|;DO0I=1,2|;DO00000I=1,2|;DO000010I=1,2|;DO10A(1)=1,2|";
 
 /// Files and what they make, likewise.
 const FILES: &[u8] =
@@ -68,9 +74,38 @@ const BROKEN: &[u8] =
 const BROKEN_TOO: &[u8] =
     b"INTEGERA(0)$END|1_21;INTEGERA(9223372036854775808)$END|1_21;K=9223372036854775808$END|1_21;\
     INTEGERA(1000001)$END|1_21;INTEGERA(1000000),B$END|1_21;INTEGERA(1000000)$PRINT*,1$K=1$END|3_21;\
-    INTEGERA(2)$A(1,2)=1$END|2_21;INTEGER$END|1_21;INTEGERA,$END|1_21;INTEGERA(2)$A()=1$END|2_21;DO10I=1,2$END|1_21;\
+    INTEGERA(2)$A(1,2)=1$END|2_21;INTEGER$END|1_21;INTEGERA,$END|1_21;INTEGERA(2)$A()=1$END|2_21;DO10I=1,2$END|2_21;\
     CONTINUE$END|1_21;INTEGERA(2)$A(1)(1:1)=1$END|2_21;INTEGER=5$END|1_21;END=1$END|1_21;INTEGERA(N)$END|1_21;\
     K=K(K)$END|1_21;INTEGERA(2)$PRINT*,A(1)(2)$END|2_21;K=1$END$K=2$END|3_21";
+
+/// Lines, each behind its label and a quote where it has one, with `$` between. What is shown is where their names
+/// stand, and each loop: the line and the ordinal of its DO statement, the first and the last statement of its range,
+/// and `c` where it is closed.
+const RANGES: &[u8] =
+    b"DO10I=N,M$10'CONTINUE$END|_I@0_N@1_M@2_#3,3_1/1:2-2c;DO10I=1,2$PRINT*,I$10'CONTINUE$END|_I@0_#1,1_1/1:2-3;\
+    DO10I=1,2$10'CONTINUE$DO10J=I,3$10'CONTINUE$END|_I@0_J@1_#2,2_1/1:2-2c_3/2:4-4c;\
+    DO10I=1,2$010'CONTINUE$DO010I=1,2$_1_0'CONTINUE$END|_I@0_#1,1_1/1:2-2c_3/2:4-4c;\
+    DO30I=1,2$DO20J=1,I$DO10K=1,J$10'CONTINUE$20'CONTINUE$30'CONTINUE$END|_I@0_J@1_K@2_#3,3_1/1:2-6c_2/2:3-5c_3/3:4-4c;\
+    INTEGERDO10I$DO10I=110$END|_DO10I@0_#1,1;INTEGERA(3)$DO99999I=1,3$A(I)=I$99999'CONTINUE$I=5$END|_A{3}@0_I@3_#4,4_2/1:3-4c;\
+    DO2I=1,2$DO1J=1,2$1'CONTINUE$DO1J=1,2$00001'CONTINUE$2'CONTINUE$END|_I@0_J@1_#2,2_1/1:2-6c_2/2:3-3c_4/3:5-5c";
+
+/// The same of lines that are refused: what is shown is the line and the code.
+const LABELS_BROKEN: &[u8] =
+    b"DO10I=1,2$CONTINUE$10'CONTINUE$END|2_21;10'CONTINUE$END|1_21;DO10I=1,2$20'CONTINUE$10'CONTINUE$END|2_21;\
+    10'K=1$END|1_21;5'DO10I=1,2$10'CONTINUE$END|1_21;5'PRINT*,1$END|1_21;5'INTEGERK$END|1_21;K=1$5'END|2_21;\
+    DO10I=1,2$00'CONTINUE$END|2_21;DO10I=1,2$1A'CONTINUE$END|2_21;DO10I=1,2$1-'CONTINUE$END|2_21;\
+    DO10I=1,2$10'CONTINUE$10'CONTINUE$END|3_21;DO10I=1$10'CONTINUE$END|1_21;INTEGERDO10I$DO10I=1$10'CONTINUE$END|3_21;\
+    DO0I=1,2$END|1_21;DO000010I=1,2$10'CONTINUE$END|1_21;DO10,I=1,2$10'CONTINUE$END|1_21;DO10I=1,2,1$10'CONTINUE$END|1_21";
+
+/// The same.
+const RANGES_BROKEN: &[u8] =
+    b"DO10I=1,2$DO10J=1,2$10'CONTINUE$END|3_21;DO10I=1,2$DO20J=1,2$10'CONTINUE$20'CONTINUE$END|3_21;\
+    DO10I=1,2$DO20J=1,2$DO10K=1,2$10'CONTINUE$END|4_21;DO10I=1,2$DO20J=1,2$DO10K=1,2$20'CONTINUE$END|4_21;\
+    DO10I=1,2$PRINT*,I$END|3_21;DO10I=1,2$DO20J=1,2$20'CONTINUE$END|4_21;DO10I=1,2|1_54;\
+    DO10I=1,2$I=3$10'CONTINUE$END|2_21;DO10I=1,2$DO20J=1,2$K=J$I=K$20'CONTINUE$10'CONTINUE$END|4_21;\
+    DO10I=1,2$DO20I=1,2$20'CONTINUE$10'CONTINUE$END|2_21;INTEGERA(3)$DO10A=1,2$10'CONTINUE$END|2_21;\
+    DO10X=1,2$10'CONTINUE$END|1_21;DO10I=1,X$10'CONTINUE$END|1_21;DO10I=1,2$INTEGERK$10'CONTINUE$END|2_21;\
+    INTEGERA(3)$DO10I=A,2$10'CONTINUE$END|2_21;DO10I=1,2$10'CONTINUE$DO10I=1,2$END|4_21";
 
 /// The byte of an operator.
 fn byte_of(operator: Op) -> u8 {
@@ -172,6 +207,16 @@ fn show_statement(stmt: &Stmt, into: &mut Bytes) -> Result<(), NoMemory> {
             into.push(b'<')?;
             show(value, into)
         }
+        Stmt::Do { terminal, control } => {
+            print_i64(i64::from(*terminal), into)?;
+            into.push(b':')?;
+            into.push_slice(control.variable.as_slice())?;
+            into.push(b'<')?;
+            show(&control.first, into)?;
+            into.push(b',')?;
+            show(&control.last, into)
+        }
+        Stmt::Continue => into.push_slice(b"CONTINUE".as_slice()),
         Stmt::Print(items) => show_items(items.as_slice(), into),
         Stmt::End => into.push_slice(b"END".as_slice()),
         _ => into.push(b'?'),
@@ -279,6 +324,32 @@ fn show_layout(layout: &Layout, into: &mut Bytes) -> Result<(), NoMemory> {
     print_i64(i64::try_from(layout.first.len()).unwrap_or(-1), into)
 }
 
+/// Shows a loop.
+fn show_loop(one: &Loop, into: &mut Bytes) -> Result<(), NoMemory> {
+    into.push(b' ')?;
+    print_i64(i64::from(one.line), into)?;
+    into.push(b'/')?;
+    print_i64(i64::from(one.ordinal), into)?;
+    into.push(b':')?;
+    print_i64(i64::from(one.from), into)?;
+    into.push(b'-')?;
+    print_i64(i64::from(one.last), into)?;
+    if one.closed { into.push(b'c') } else { Ok(()) }
+}
+
+/// Shows where the names of a file stand, and its loops.
+fn ranged(alloc: Global, bytes: &[u8]) -> Result<Bytes, NoMemory> {
+    let mut into = Bytes::new(alloc);
+    let all = programs(alloc, bytes, &mut into)?;
+    for program in all.as_slice() {
+        show_layout(&program.layout, &mut into)?;
+        for one in program.loops.as_slice() {
+            show_loop(one, &mut into)?;
+        }
+    }
+    Ok(into)
+}
+
 /// A byte of a table as it stands in a file.
 fn real(byte: u8) -> u8 {
     match byte {
@@ -352,10 +423,49 @@ fn check_lines(rt: &impl Abort, alloc: Global, table: &[u8]) -> Result<(), NoMem
     Ok(())
 }
 
+/// A line behind six columns with its label, where a quote ends one.
+fn labelled(alloc: Global, coded: &[u8]) -> Result<Bytes, NoMemory> {
+    let mut line = Bytes::new(alloc);
+    let mut text = coded;
+    for (at, byte) in coded.iter().enumerate() {
+        if *byte == b'\'' {
+            line.push_slice(coded.split_at(at).0)?;
+            text = coded.split_at(at + 1).1;
+        }
+    }
+    for _column in line.len()..6 {
+        line.push(b' ')?;
+    }
+    line.push_slice(text)?;
+    Ok(line)
+}
+
+/// A file of such lines.
+fn labelled_lines(alloc: Global, coded: &[u8]) -> Result<Bytes, NoMemory> {
+    let mut file = Bytes::new(alloc);
+    for line in coded.split(|byte| *byte == b'\n') {
+        file.push_slice(labelled(alloc, line)?.as_slice())?;
+        file.push(b'\n')?;
+    }
+    Ok(file)
+}
+
+/// Asserts that the lines with labels of each row of a table make what is shown.
+fn check_ranges(rt: &impl Abort, alloc: Global, table: &[u8]) -> Result<(), NoMemory> {
+    for (at, row) in table.split(|byte| *byte == b';').enumerate() {
+        let (coded, shown) = parts(alloc, row)?;
+        let file = labelled_lines(alloc, coded.as_slice())?;
+        let given = ranged(alloc, file.as_slice())?;
+        assert!(rt; given.as_slice() == shown.as_slice(), "ranges {at}");
+    }
+    Ok(())
+}
+
 #[test]
 fn texts_spell_their_statements(rt: HostRuntime) -> Result<(), Fail> {
     check_texts(&rt, rt.alloc(), TREES)?;
     check_texts(&rt, rt.alloc(), NAMES)?;
+    check_texts(&rt, rt.alloc(), LOOPS)?;
     check_texts(&rt, rt.alloc(), NO_STATEMENTS)?;
     Ok(())
 }
@@ -372,6 +482,14 @@ fn names_have_their_places_or_break_a_rule(rt: HostRuntime) -> Result<(), Fail> 
     check_lines(&rt, rt.alloc(), PLACES)?;
     check_lines(&rt, rt.alloc(), BROKEN)?;
     check_lines(&rt, rt.alloc(), BROKEN_TOO)?;
+    Ok(())
+}
+
+#[test]
+fn ranges_nest_or_break_a_rule(rt: HostRuntime) -> Result<(), Fail> {
+    check_ranges(&rt, rt.alloc(), RANGES)?;
+    check_ranges(&rt, rt.alloc(), LABELS_BROKEN)?;
+    check_ranges(&rt, rt.alloc(), RANGES_BROKEN)?;
     Ok(())
 }
 
@@ -420,5 +538,34 @@ fn ten_thousand_names_are_accepted(rt: HostRuntime) -> Result<(), Fail> {
     );
     let more = placed(rt.alloc(), file_of_names(rt.alloc(), 5_001)?.as_slice())?;
     assert!(rt; more.as_slice() == b"5001 21".as_slice());
+    Ok(())
+}
+
+/// A file of so many DO statements that nest, with an assignment in the innermost range, their CONTINUEs, and END.
+fn file_of_ranges(alloc: Global, depth: u32) -> Result<Bytes, NoMemory> {
+    let mut source = Bytes::new(alloc);
+    for number in 0..depth {
+        source.push_slice(b"      DO".as_slice())?;
+        print_i64(i64::from(number) + 10_000, &mut source)?;
+        source.push_slice(b"N".as_slice())?;
+        print_i64(i64::from(number), &mut source)?;
+        source.push_slice(b"=1,1\n".as_slice())?;
+    }
+    source.push_slice(b"      K=1\n".as_slice())?;
+    for number in 0..depth {
+        print_i64(i64::from(depth) - i64::from(number) + 9_999, &mut source)?;
+        source.push_slice(b" CONTINUE\n".as_slice())?;
+    }
+    source.push_slice(b"      END\n".as_slice())?;
+    Ok(source)
+}
+
+#[test]
+fn ranges_nest_deep(rt: HostRuntime) -> Result<(), Fail> {
+    let most = ranged(rt.alloc(), file_of_ranges(rt.alloc(), 4_999)?.as_slice())?;
+    assert!(rt;
+        most.as_slice()
+            .ends_with(b" 4999/4999:5000-5001c".as_slice())
+    );
     Ok(())
 }

@@ -7,14 +7,14 @@ pub returns-then-eq : goal.returns-then-eq
 unfolding statement_of
 returns-then-eq c = first_of (search rules, grind (arith, common_steps))
 
-pub returns-in-Ok : goal.returns-in-Ok
+pub returns-then-eq-2 : goal.returns-then-eq-2
 unfolding statement_of
-returns-in-Ok c = first_of (search rules, grind (arith, common_steps))
+returns-then-eq-2 c = first_of (search rules, grind (arith, common_steps))
 
-pub returns-in-Ok-2 : goal.returns-in-Ok-2
+pub returns-in-Some : goal.returns-in-Some
 unfolding statement_of
-returns-in-Ok-2 c = first_of (search rules, grind (arith, common_steps))
+returns-in-Some c = first_of (search rules, grind (arith, common_steps))
 
-pub returns-in-Err-Unspelled : goal.returns-in-Err-Unspelled
+pub returns-in-None : goal.returns-in-None
 unfolding statement_of
-returns-in-Err-Unspelled c = first_of (search rules, grind (arith, common_steps))
+returns-in-None c = first_of (search rules, grind (arith, common_steps))

@@ -8,6 +8,7 @@ abbrev pub invariant-loop-line : goal.invariant-loop-line
 invariant-loop-line l = record {
   number : l.number + length l.left ≤ 1 + length l.bytes;
   some : 1 ≤ l.number;
+  few : length l.self.listing + length l.left ≤ length l.fn.self.listing + length l.bytes;
   rest : scan 1 l.fn.self (lines_of l.bytes) ≡ scan l.number l.self (lines_of l.left);
 }
 
