@@ -190,7 +190,7 @@ no_longer : (o : Option Listed) (all : List Listed) (k : ℕ) → length all ≤
 no_longer None all k h = omega arith
 no_longer (Some one) all k h = omega arith
 
-listed_within : (n : ℕ) (lines : List (List ℕ)) → length (listing_of n lines) ≤ length lines
+pub listed_within : (n : ℕ) (lines : List (List ℕ)) → length (listing_of n lines) ≤ length lines
 listed_within n [] = omega arith
 listed_within n (line ∷ lines) = no_longer (listed_of n line) (listing_of (n + 1) lines) (length lines) (listed_within (n + 1) lines)
 

@@ -1,5 +1,5 @@
 -- An accepted program is sound.
-use Rattle.std.proofs.Common.{◌≡◌, ℕ, suc, ◌+◌, ◌≤◌, pos, negsuc, Bool, true, false, not, nat_le, List, [], ◌∷◌, ◌++◌, length, filter, replicate, All, Some, None, Ok, Err, Option, if◌then◌else◌, Result, refl, sym, ◌∙◌, subst, arith, IsTrue}
+use Rattle.std.proofs.Common.{◌≡◌, ℕ, suc, ◌+◌, ◌<◌, ◌≤◌, ◌^◌, pos, negsuc, Bool, true, false, not, nat_le, List, [], ◌∷◌, ◌++◌, length, filter, replicate, All, Some, None, Ok, Err, Option, if◌then◌else◌, Result, refl, sym, ◌∙◌, subst, arith, IsTrue}
 use Rattle.std.specs.Prelude.{IfOk}
 use Rattle.std.specs.List.{list_all}
 use Rattle.std.proofs.lemmas.Bool.{and_from, and_parts}
@@ -26,7 +26,7 @@ use Rattle.first_form.specs.Names.{mentioned_in, declarations, mentions}
 use Rattle.first_form.specs.Storage.{number_by, last_by, elements, units_of, is_of, firsts, total_units, entity_at, entities_from}
 use Rattle.first_form.specs.Rules.{storage_limit, has_elements, declares_first, names_keep}
 use Rattle.first_form.specs.Sound.{IsDeclare, declare, IsAction, AreDeclaresActionsEnd}
-use Rattle.first_form.proofs.Accepted.{Rules, rules_of, form_of, ruled_accepted}
+use Rattle.first_form.proofs.Accepted.{Rules, rules_of, form_of, listed_within, ruled_accepted}
 use Rattle.first_form.proofs.Admits.{names_kept, Standing}
 use Rattle.first_form.proofs.Nesting.{ranges_nest}
 use Rattle.first_form.proofs.Resolves.{good, action_resolves, standing_sized, all_good}
@@ -117,6 +117,13 @@ formed_all listing f =
 
 -- ---- programs
 
+-- there are no more statements than lines
+few_lines : (lines : List (List ℕ)) → Rules lines → length (listing_of 1 lines) + 1 < 2 ^ 32
+few_lines lines r =
+    let few = r.few in
+    let w = listed_within 1 lines in
+    omega arith
+
 lines_sound : (lines : List (List ℕ)) → Rules lines → ends_in_end lines ≡ true → IsSound (program_of lines)
 lines_sound lines r ended =
     let f = form_of lines r ended in
@@ -127,6 +134,7 @@ lines_sound lines r ended =
     (laid_out (names_of (statements_of (listing_of 1 lines))) sized k.small)
     refl
     (ranges_nest (listing_of 1 lines) (f.declares ++ f.actions) f.last (f.joined ∙ sym (append_assoc f.declares f.actions (f.last ∷ []))) f.is_end r.ranged)
+    (few_lines lines r)
 
 ruled_sound : (lines : List (List ℕ)) (program : Program) → ruled_of (first_break lines) lines ≡ Ok program → IsSound program
 ruled_sound lines program e = let a = ruled_accepted (first_break lines) lines program refl e in subst IsSound a.is (lines_sound a.lines (rules_of a.lines a.keeps) a.ended)
