@@ -5,19 +5,21 @@ use Rattle.std.specs.Prelude.{nat_le}
 use Rattle.hyb_base.specs.Decimal.{decimal_of}
 use Rattle.f77_ast.specs.declared.program.Layout.{Layout}
 use Rattle.f77_ast.specs.declared.program.Listed.{Listed}
+use Rattle.f77_ast.specs.declared.program.Loop.{Loop}
 use Rattle.f77_ast.specs.declared.program.Program.{Program}
 use Rattle.f77_ast.specs.declared.refusal.Fault.TheVariants.{LineLimit}
 use Rattle.f77_ast.specs.declared.step.Stepped.{Stepped}
 use Rattle.f77_ast.specs.declared.step.Stepped.TheVariants.{Printed}
 use Rattle.f77_ast.specs.declared.stmt.Item.{Item, Plain}
-use Rattle.f77_ast.specs.declared.stmt.Stmt.{Stmt, Assign, Print, End}
+use Rattle.f77_ast.specs.declared.stmt.Stmt.{Stmt, Assign, Continue, Do, Print, End}
 use Rattle.f77_meaning.specs.Assign.{Written, written_of}
 use Rattle.f77_meaning.specs.Demand.{Demand, gives, wants, fails, and_then, demand_of}
+use Rattle.f77_meaning.specs.Do.{Begun, begun_of}
 use Rattle.f77_meaning.specs.Event.{Event, reads, writes, moves, prints, ends, faults}
 use Rattle.f77_meaning.specs.Next.{Next, next, next_of, stepped_of, line_after}
 use Rattle.f77_meaning.specs.Print.{line_limit, with_item, item_of, items_of, line_of_items}
-use Rattle.f77_meaning.specs.Process.{Process, listed_at}
-use Rattle.f77_meaning.specs.Step.{event, event_at, statement_event, print_event, write_event}
+use Rattle.f77_meaning.specs.Process.{ActiveLoop, Process, listed_at}
+use Rattle.f77_meaning.specs.Step.{do_event, event, event_at, increment_event, loop_at, statement_event, print_event, write_event}
 
 -- a line that was made is no longer than a line may be
 abbrev IsShort : Demand (List ℕ) → Type 0
@@ -67,15 +69,34 @@ write_short (gives written rest) = tt
 write_short (wants address) = tt
 write_short (fails fault) = tt
 
-statement_short : (layout : Layout) (unit : ℕ) (s : Stmt) (answers : List ℤ) → PrintsShort (statement_event layout unit s answers)
-statement_short layout unit (Assign target value) answers = write_short (written_of layout unit target value answers)
-statement_short layout unit (Print items) answers = print_short (line_of_items layout unit items answers) (line_short layout unit items answers)
-statement_short layout unit End answers = tt
-statement_short layout unit _ answers = tt
+begin_short : (o : Option Loop) (d : Demand Begun) → PrintsShort (do_event o d)
+begin_short None d = tt
+begin_short (Some loop) (gives begun rest) = tt
+begin_short (Some loop) (wants address) = tt
+begin_short (Some loop) (fails fault) = tt
 
-event_short : (layout : Layout) (unit : ℕ) (found : Option Listed) (answers : List ℤ) → PrintsShort (event_at layout unit found answers)
-event_short layout unit None answers = tt
-event_short layout unit (Some listed) answers = statement_short layout unit listed.stmt answers
+statement_short : (program : Program) (unit at : ℕ) (s : Stmt) (answers : List ℤ) → PrintsShort (statement_event program unit at s answers)
+statement_short program unit at (Assign target value) answers = write_short (written_of program.layout unit target value answers)
+statement_short program unit at (Do terminal control) answers = begin_short (loop_at program unit at) (begun_of program.layout unit control answers)
+statement_short program unit at Continue answers = tt
+statement_short program unit at (Print items) answers = print_short (line_of_items program.layout unit items answers) (line_short program.layout unit items answers)
+statement_short program unit at End answers = tt
+statement_short program unit at _ answers = tt
+
+found_short : (program : Program) (unit at : ℕ) (found : Option Listed) (answers : List ℤ) → PrintsShort (event_at program unit at found answers)
+found_short program unit at None answers = tt
+found_short program unit at (Some listed) answers = statement_short program unit at listed.stmt answers
+
+increment_short : (active : List ActiveLoop) → PrintsShort (increment_event active)
+increment_short [] = tt
+increment_short (loop ∷ outer) = tt
+
+event_short : (program : Program) (p : Process) → PrintsShort (event program p)
+event_short program p = by p.increments
+  where
+    by : (b : Bool) → PrintsShort (if b then increment_event p.active else event_at program p.unit p.at (listed_at program p) p.answers)
+    by true = increment_short p.active
+    by false = found_short program p.unit p.at (listed_at program p) p.answers
 
 short_after : (did : Event) (line : List ℕ) → PrintsShort did → Printed ≡ stepped_of did → length (line_after did line) ≤ line_limit
 short_after (prints text) line h e = h
@@ -90,7 +111,7 @@ pub printed_short : (program : Program) (p q : Process) (old new : List ℤ) (co
 printed_short program p q old new count counted text line e =
     let stepped : Printed ≡ stepped_of (event program p) = ap (λ (n : Next). n.stepped) e in
     let line_is : line ≡ line_after (event program p) text = ap (λ (n : Next). n.line) e in
-    subst (λ l. length l ≤ line_limit) (sym line_is) (short_after (event program p) text (event_short program.layout p.unit (listed_at program p) p.answers) stepped)
+    subst (λ l. length l ≤ line_limit) (sym line_is) (short_after (event program p) text (event_short program p) stepped)
 
 same_after : (did : Event) (line : List ℕ) → stepped_of did ≢ Printed → line_after did line ≡ line
 same_after (prints text) line n = absurd (n refl)
