@@ -12,8 +12,8 @@ use hyb_outside::never_fails_sink::NeverFailsSink;
 use std::alloc::Global;
 use std::test::Fail;
 
-/// Programs that end: their lines behind column 6 with `;` between them, the number of their steps, and the lines
-/// that they print.
+/// Programs that end: their lines with `;` between them, each with its label or behind column 6, the number of their
+/// steps, and the lines that they print, with `/` between them.
 const ENDING: &[u8] = b"I = 7;PRINT *, I;END|4| 7
 PRINT *, I;END|3| 0
 INTEGER A(3);A(2) = 5;PRINT *, A(1), A(2), A(3);END|6| 0 5 0
@@ -32,7 +32,21 @@ INTEGER A(3);I = 1;A(I + 1) = I;PRINT *, A(2);END|7| 1
 I = 9223372036854775807;J = I + 1;K = J / (-1);PRINT *, J, K;END|9| -9223372036854775808 -9223372036854775808
 I = 4294967296;J = I * I;PRINT *, J;END|7| 0
 I = -7;J = I / 2;K = -I / 2;PRINT *, J, K;END|9| -3 3
-INTEGER A(999999);A(999999) = 8;PRINT *, A(999999), A(1), I;END|6| 8 0 0";
+INTEGER A(999999);A(999999) = 8;PRINT *, A(999999), A(1), I;END|6| 8 0 0
+INTEGER A(3);DO 10 I = 1, 0;A(I) = 9;10 CONTINUE;PRINT *, I, A(1);END|5| 1 0
+INTEGER A(100), B(100);DO 10 I = 1, 100;A(I) = B(I) + 1;10 CONTINUE;PRINT *, A(1), A(100);END|605| 1 1
+DO 10 I = 1, 3;10 CONTINUE;PRINT *, I;END|10| 4
+DO 10 I = 1, 2;PRINT *, I;10 CONTINUE;END|10| 1/ 2
+DO 10 I = -2, 0;L = L + I;10 CONTINUE;PRINT *, I, L;END|20| 1 -3
+N = 3;DO 10 I = 1, N;N = 9;10 CONTINUE;PRINT *, I, N;END|16| 4 9
+I = 2;DO 10 I = I, I + 1;10 CONTINUE;PRINT *, I;END|11| 4
+INTEGER A(2);A(1) = 2;A(2) = 3;DO 10 I = A(1), A(A(1));10 CONTINUE;PRINT *, I;END|13| 4
+DO 20 I = 1, 3;DO 10 J = 5, I;L = L + 1;10 CONTINUE;20 CONTINUE;PRINT *, I, J, L;END|18| 4 5 0
+DO 20 I = 1, 3;DO 10 J = 1, I;K = K + J;10 CONTINUE;20 CONTINUE;PRINT *, K;END|46| 10
+DO 30 I = 1, 2;DO 20 J = 1, 2;DO 10 K = 1, 2;L = L + 1;10 CONTINUE;20 CONTINUE;30 CONTINUE;PRINT *, I, J, K, L;END|57| 3 3 3 8
+DO 10 I = 1, 2;10 CONTINUE;DO 10 I = 1, 3;10 CONTINUE;PRINT *, I;END|15| 4
+DO 010 I = 1, 1;10 CONTINUE;PRINT *, I;END|6| 2
+DO 10 I = 9223372036854775805, 9223372036854775806;10 CONTINUE;PRINT *, I;END|8| 9223372036854775807";
 
 /// Programs that fault: their lines, the number of their steps, and the fault's line of the notes.
 const FAULTING: &[u8] = b"INTEGER A(3);A(0) = 1;END|1|FAULT 2 LINE 2
@@ -41,7 +55,12 @@ INTEGER A(3);I = 9223372036854775807;A(I + 1) = 1;END|3|FAULT 2 LINE 3
 INTEGER A(3);A(4) = 1 / 0;END|1|FAULT 2 LINE 2
 INTEGER A(3);I = 1;A(I) = 1 / 0;END|3|FAULT 1 LINE 3
 I = 1;I = I + 1 / 0;END|2|FAULT 1 LINE 2
-INTEGER A(3);I = 1;J = I / A(I);END|5|FAULT 1 LINE 3";
+INTEGER A(3);I = 1;J = I / A(I);END|5|FAULT 1 LINE 3
+DO 10 I = 1, 9223372036854775807;10 CONTINUE;END|1|FAULT 6 LINE 1
+DO 10 I = -1, 9223372036854775807;10 CONTINUE;END|1|FAULT 6 LINE 1
+J = 1;DO 10 I = J, 9223372036854775807;10 CONTINUE;END|3|FAULT 6 LINE 2
+DO 10 I = 1, 1/0;10 CONTINUE;END|1|FAULT 1 LINE 1
+INTEGER A(2);DO 10 I = 1, 3;A(I) = I;10 CONTINUE;END|13|FAULT 2 LINE 3";
 
 /// The part of a row at a place, where it has so many.
 fn part(row: &[u8], place: usize) -> Result<&[u8], Fail> {
@@ -51,12 +70,24 @@ fn part(row: &[u8], place: usize) -> Result<&[u8], Fail> {
     }
 }
 
+/// The label with which a line begins, and what follows it.
+fn label_and_statement(line: &[u8]) -> (&[u8], &[u8]) {
+    match line.iter().position(|byte| !byte.is_ascii_digit()) {
+        Some(end) => line.split_at(end),
+        None => (b"", line),
+    }
+}
+
 /// The file of a program of these lines.
 fn source(alloc: Global, lines: &[u8]) -> Result<Bytes, NoMemory> {
     let mut source = Bytes::new(alloc);
     for line in lines.split(|byte| *byte == b';') {
-        source.push_slice(b"      ")?;
-        source.push_slice(line)?;
+        let (label, statement) = label_and_statement(line);
+        source.push_slice(label)?;
+        for _ in label.len()..6 {
+            source.push(b' ')?;
+        }
+        source.push_slice(statement)?;
         source.push(b'\n')?;
     }
     Ok(source)
@@ -94,10 +125,13 @@ fn gives(
     Ok(status.code() == code && out.taken() == out_text && notes.taken() == notes_text)
 }
 
-/// A line with its LF.
-fn with_feed(alloc: Global, line: &[u8]) -> Result<Bytes, NoMemory> {
-    let mut text = Bytes::from_slice(alloc, line)?;
-    text.push(b'\n')?;
+/// Lines with `/` between them, each with its LF.
+fn with_feeds(alloc: Global, lines: &[u8]) -> Result<Bytes, NoMemory> {
+    let mut text = Bytes::new(alloc);
+    for line in lines.split(|byte| *byte == b'/') {
+        text.push_slice(line)?;
+        text.push(b'\n')?;
+    }
     Ok(text)
 }
 
@@ -107,7 +141,7 @@ fn programs_end(rt: HostRuntime) -> Result<(), Fail> {
     for (at, row) in ENDING.split(|byte| *byte == b'\n').enumerate() {
         let lines = part(row, 0)?;
         let steps = read_u64(part(row, 1)?).ok_or("a row has its steps")?;
-        let out = with_feed(alloc, part(row, 2)?)?;
+        let out = with_feeds(alloc, part(row, 2)?)?;
         // exactly the steps that it takes, and one short: END's own step is the last
         assert!(rt;
             gives(alloc, lines, steps, 0, out.as_slice(), b"")?,
@@ -128,7 +162,7 @@ fn programs_fault(rt: HostRuntime) -> Result<(), Fail> {
     for (at, row) in FAULTING.split(|byte| *byte == b'\n').enumerate() {
         let lines = part(row, 0)?;
         let steps = read_u64(part(row, 1)?).ok_or("a row has its steps")?;
-        let notes = with_feed(alloc, part(row, 2)?)?;
+        let notes = with_feeds(alloc, part(row, 2)?)?;
         assert!(rt;
             gives(alloc, lines, steps, 4, b"", notes.as_slice())?,
             "row {at}"
