@@ -1,0 +1,4 @@
+pub mod Clear
+pub mod Forms
+pub mod LeafLemmas
+pub mod Turns

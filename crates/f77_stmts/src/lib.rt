@@ -1,0 +1,14 @@
+//! Statements.
+#![tactic(auto)]
+
+pub mod bounds;
+pub mod control;
+pub mod data;
+pub mod keyword;
+pub mod leaves;
+pub mod lengths;
+pub mod list;
+pub mod names;
+pub mod sees;
+pub mod shared;
+pub mod typed;
