@@ -1,7 +1,9 @@
 -- The turns of the loops that read lists.
-use Rattle.std.proofs.Common.{◌≡◌, ℕ, zero, suc, ◌+◌, ◌-◌, ◌≤◌, ◌<◌, Bool, [], ◌∷◌, ◌++◌, List, true, false, length, drop, Some, None, refl, sym, ap, ◌∙◌, arith}
-use Rattle.f77_exprs.specs.Operators.{Text}
-use Rattle.f77_exprs.specs.Reading.{Outcome, Parser, and_then, sees, after, is_empty}
+use Rattle.std.proofs.Common.{◌≡◌, ℕ, zero, suc, ◌+◌, ◌-◌, ◌≤◌, ◌<◌, Bool, [], ◌∷◌, ◌++◌, List, true, false, length, drop, Result, if◌then◌else◌, Some, None, refl, sym, ap, subst, ◌∙◌, arith}
+use Rattle.f77_exprs.specs.declared.unread.Unread.{Unread}
+use Rattle.f77_exprs.specs.Operators.{Text, begins}
+use Rattle.f77_exprs.specs.Read.{Reads}
+use Rattle.f77_exprs.specs.Reading.{Outcome, Parser, and_then, sees, after, after_word, eat_word, is_empty}
 use Rattle.f77_exprs.proofs.Complete.{bind}
 use Rattle.f77_exprs.proofs.Turns.{Turns}
 use Rattle.f77_stmts.specs.Form.{more_of, list_of, many_of}
@@ -69,3 +71,10 @@ module _ {A : Type 0} (p : Parser A) where
 
   pub many_goes : (whole : Outcome (List A)) (n t : ℕ) (found more : List A) (a : A) (i r : Text) → more ≡ found ++ a ∷ [] → whole ≡ many_of p (n - t) found i → t < n → is_empty i ≡ false → p i ≡ Some (a, r) → whole ≡ many_of p (n - (t + 1)) more r
   many_goes whole n t found more a i r is e lt some got = many_turned whole n t found i e lt some ∙ ap (λ o. and_then o (λ a. many_of p (n - (t + 1)) (found ++ a ∷ []))) got ∙ ap (λ x. many_of p (n - (t + 1)) x r) (sym is)
+
+-- ---- what is read where a word doesn't come next
+
+pub reads_else : {A : Type 0} (w i j : Text) (go other : Parser A) (result : Result A Unread) (new : Text) → begins w i ≡ false → j ≡ after_word w i → Reads (other j) result new → Reads (and_then (eat_word w i) (λ found. if found then go else other)) result new
+reads_else w i j go other result new none at h =
+    let same : j ≡ i = at ∙ (rw none refl) in
+    subst (λ o. Reads o result new) (ap other same ∙ sym (rw none refl)) h

@@ -57,17 +57,29 @@ function = pair (before a_name (codes "(")) dummies
 abbrev pub function_of : Text × List Text → Typed
 function_of v = typed.Function v.0 v.1
 
+-- name `(` [list(name)] `)` behind a type and `FUNCTION`
+abbrev pub typed_function : Form Typed
+typed_function = made function_of function
+
 -- `FUNCTION` name `(` [list(name)] `)`, or list(decl)
 abbrev pub behind_type : Form Typed
-behind_type = either (codes "FUNCTION") (made function_of function) (made (λ all. typed.Entities all) (list entity))
+behind_type = either (codes "FUNCTION") typed_function (made (λ all. typed.Entities all) (list entity))
 
 -- `FUNCTION` name `(` [list(name)] `)`, or list(decl [`*` len])
 abbrev pub behind_character : Form Typed
-behind_character = either (codes "FUNCTION") (made function_of function) (made (λ all. typed.Entities all) (list text_entity))
+behind_character = either (codes "FUNCTION") typed_function (made (λ all. typed.Entities all) (list text_entity))
 
 -- `FUNCTION` name `(` [list(name)] `)`, or [`,`] list(decl [`*` len])
 abbrev pub behind_length : Form Typed
-behind_length = either (codes "FUNCTION") (made function_of function) (made (λ all. typed.Entities all) (past (codes ",") (list text_entity)))
+behind_length = either (codes "FUNCTION") typed_function (made (λ all. typed.Entities all) (past (codes ",") (list text_entity)))
+
+-- len, and what stands behind it
+abbrev pub with_length : Form Stmt
+with_length = made (λ v. typed_by (typ.Character (Some v.0)) v.1) (pair len behind_length)
+
+-- what stands behind `CHARACTER` alone
+abbrev pub without_length : Form Stmt
+without_length = made (typed_by (typ.Character None)) behind_character
 
 -- ---- the rows
 
@@ -117,7 +129,7 @@ rule word.Integer = made (typed_by typ.Integer) behind_type
 rule word.Logical = made (typed_by typ.Logical) behind_type
 -- Declare: `CHARACTER` [`*` len [`,`]] list(decl [`*` len]) (section 8.4.2); Function: `CHARACTER` [`*` len] `FUNCTION`
 -- name `(` [list(name)] `)`
-rule word.Character = either (codes "*") (made (λ v. typed_by (typ.Character (Some v.0)) v.1) (pair len behind_length)) (made (typed_by (typ.Character None)) behind_character)
+rule word.Character = either (codes "*") with_length without_length
 -- Dimension: `DIMENSION` list(name `(` list(bound) `)`) (section 8.1)
 rule word.Dimension = made (λ v. stmt.Dimension v) (list array)
 -- Equivalence: `EQUIVALENCE` list of `(` ref `,` list(ref) `)`, without substrings (section 8.2)
