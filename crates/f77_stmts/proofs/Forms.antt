@@ -11,7 +11,7 @@ use Rattle.f77_exprs.proofs.Complete.{bind, eats_no}
 use Rattle.f77_exprs.proofs.Primaries.{letter_first, alphanumerics_of, all_alphanumeric}
 use Rattle.f77_exprs.proofs.Sound.{Holds, holds_bind, holds_weak, eats, eats_word, within_sound, name_sound}
 use Rattle.f77_exprs.proofs.Words.{drop_all, begins_splits}
-use Rattle.f77_stmts.specs.Form.{Form, nothing, after, before, past, pair, made, either, by_first, list, many, an_expr, a_ref, a_whole_ref, a_name, a_label, some_digits, a_number, a_constant, a_letter, SpellsList, last, more, SpellsMany, none, one_more, Spells, passes, expect_word, more_of, list_of, many_of, ref_of, whole_of, letter, read}
+use Rattle.f77_stmts.specs.Form.{Form, nothing, after, before, past, pair, made, either, by_first, list, many, a_part, an_expr, a_ref, a_whole_ref, a_name, a_label, some_digits, a_number, a_constant, a_letter, SpellsList, last, more, SpellsMany, none, one_more, Spells, passes, expect_word, more_of, list_of, many_of, ref_of, whole_of, letter, read}
 use Rattle.f77_stmts.proofs.LeafLemmas.{Next, letters, numerals, expr_firsts, of_letter, name_begins, digits_begin, expr_begins, ref_begins, number_begins, constant_begins, expr_filled, all_front, all_back, behind_expr, behind_name, behind_digits, behind_ref, behind_constant, after_name, unseen, read_expr, read_ref, read_name, read_label, read_short, read_number, read_constant, read_letter, ref_sound, label_sound, short_sound, number_is_sound, constant_is_sound, letter_sound}
 
 -- ---- the test
@@ -51,6 +51,7 @@ firsts (either w f g) = head w ∷ firsts g
 firsts (by_first p f g) = firsts f ++ firsts g
 firsts (list f) = firsts f
 firsts (many f) = firsts f
+firsts (a_part R p) = []
 firsts an_expr = expr_firsts
 firsts a_ref = letters
 firsts a_whole_ref = letters
@@ -73,6 +74,7 @@ next (either w f g) c = next f c && (next g c && (if nullable g then not (c == h
 next (by_first p f g) c = next f c && (next g c && (if nullable g then not (p c) else true))
 next (list f) c = next f c && not (c == 44)
 next (many f) c = false
+next (a_part R p) c = false
 next an_expr c = behind_expr c
 next a_ref c = behind_ref c
 next a_whole_ref c = behind_ref c
@@ -109,6 +111,7 @@ is_clear (either w f g) = not (is_empty w) && (is_clear f && (is_clear g && avoi
 is_clear (by_first p f g) = is_clear f && (is_clear g && (not (nullable f) && (list_all p (firsts f) && list_all (λ c. not (p c)) (firsts g))))
 is_clear (list f) = is_clear f && (not (nullable f) && next f 44)
 is_clear (many f) = is_clear f && (not (nullable f) && list_all (next f) (firsts f))
+is_clear (a_part R p) = false
 is_clear _ = true
 
 -- ---- small lemmas
@@ -198,6 +201,7 @@ firsts_next (many {A = X} f) p k all v u r h z =
     by : {all : List X} {u : Text} → SpellsMany (Spells f) all u → ((a : X) (s t : Text) → Spells f a s → Next p (s ++ t)) → Next p (u ++ r)
     by none rule = z refl
     by (one_more {a = a} {s = s} {t = t} x y) rule = subst (Next p) (sym (append_assoc s t r)) (rule a s (t ++ r) x)
+firsts_next (a_part R q) p k all v u r h z = cc
 firsts_next an_expr p k all v u r h z = expr_begins p all h r
 firsts_next a_ref p k all v u r h z = ref_begins p v u r all h
 firsts_next a_whole_ref p k all v u r h z = ref_begins p v u r all h.0
@@ -276,6 +280,7 @@ brief (list {A = X} f) b k v s r h n =
     by (last {a = a} {s = s} x) rule comma n = rule a s r x (next_weak (λ c. next f c && not (c == 44)) (next f) (λ c w. (and_parts (next f c) _ w).0) r n)
     by (more {a = a} {s = s} {t = t} x y) rule comma n = subst (λ z. alphanumerics z ≤ 6) (sym (append_assoc s (44 ∷ t) r)) (rule a s ((44 ∷ t) ++ r) x comma)
 brief (many f) b k v s r h n = cc
+brief (a_part R p) b k v s r h n = cc
 brief an_expr b k v s r h n = cc
 brief a_ref b k v s r h n = cc
 brief a_whole_ref b k v s r h n = cc
@@ -410,6 +415,7 @@ filled (list {A = X} f) k z v s h =
     by (last {a = a} {s = s} x) rule = rule a s x
     by (more {a = a} {s = s} {t = t} x y) rule = some_front s (44 ∷ t) (rule a s x)
 filled (many f) k z v s h = cc
+filled (a_part R p) k z v s h = cc
 filled an_expr k z v s h = expr_filled h
 filled a_ref k z v s h = expr_filled h
 filled a_whole_ref k z v s h = expr_filled h.0
@@ -569,6 +575,7 @@ complete (many {A = X} f) k d v s [] lt h n =
     follows : (rest : List X) (u : Text) → SpellsMany (Spells f) rest u → is_clear f ≡ true → not (nullable f) ≡ true → list_all (next f) (firsts f) ≡ true → Next (next f) u
     follows _ _ none k1 k2 k3 = tt
     follows _ _ (one_more {a = a} {s = t} {t = w} x y) k1 k2 k3 = firsts_next f (next f) k1 k3 a t w x (never (nullable f) k2)
+complete (a_part R p) k d v s r lt h n = cc
 complete an_expr k d v s r lt h n = read_expr d v s r lt h n
 complete a_ref k d v s r lt h n = read_ref d v s r lt h n
 complete a_whole_ref k d v s r lt h n =
@@ -645,45 +652,46 @@ many_sound {A = A} R p sound (suc n) found s i h = by (is_empty i)
     by true rest = (s, refl, h)
     by false rest = rest
 
-pub sound : {A : Type 0} (f : Form A) (d : ℕ) (i : Text) → Holds (Front f i) (read d f i)
-sound (nothing a) d i = ([], refl, (refl, refl))
-sound (after w f) d i = holds_bind (expect_word w i) (λ _. read d f) (λ u r. i ≡ w ++ r) (Front (after w f) i) (word_sound w i) (λ u j e.
-    holds_weak (read d f j) (Front f j) (Front (after w f) i) (sound f d j) (λ v r x. (w ++ x.0, e ∙ ap (λ z. w ++ z) x.1 ∙ sym (append_assoc w x.0 r), (x.0, refl, x.2))))
-sound (before f w) d i = holds_bind (read d f i) (λ a. expect_word w >> pure a) (Front f i) (Front (before f w) i) (sound f d i) (λ v j x.
+pub sound : {A : Type 0} (f : Form A) → is_clear f ≡ true → (d : ℕ) (i : Text) → Holds (Front f i) (read d f i)
+sound (nothing a) k d i = ([], refl, (refl, refl))
+sound (after w f) k d i = holds_bind (expect_word w i) (λ _. read d f) (λ u r. i ≡ w ++ r) (Front (after w f) i) (word_sound w i) (λ u j e.
+    holds_weak (read d f j) (Front f j) (Front (after w f) i) (sound f (and_parts (not (is_empty w)) _ k).1 d j) (λ v r x. (w ++ x.0, e ∙ ap (λ z. w ++ z) x.1 ∙ sym (append_assoc w x.0 r), (x.0, refl, x.2))))
+sound (before f w) k d i = holds_bind (read d f i) (λ a. expect_word w >> pure a) (Front f i) (Front (before f w) i) (sound f (and_parts (is_clear f) _ (and_parts (not (is_empty w)) _ k).1).0 d i) (λ v j x.
     holds_bind (expect_word w j) (λ _. pure v) (λ u r. j ≡ w ++ r) (Front (before f w) i) (word_sound w j) (λ u r e. (x.0 ++ w, x.1 ∙ ap (λ z. x.0 ++ z) e ∙ sym (append_assoc x.0 w r), (x.0, refl, x.2))))
-sound (past w f) d i = by (begins w i) refl
-    (λ e. holds_weak (read d f (drop (length w) i)) (Front f (drop (length w) i)) (Front (past w f) i) (sound f d (drop (length w) i)) (λ v r x. (w ++ x.0, begins_splits w i e ∙ ap (λ z. w ++ z) x.1 ∙ sym (append_assoc w x.0 r), inl (x.0, refl, x.2))))
-    (holds_weak (read d f i) (Front f i) (Front (past w f) i) (sound f d i) (λ v r x. (x.0, x.1, inr x.2)))
+sound (past w f) k d i = by (begins w i) refl
+    (λ e. holds_weak (read d f (drop (length w) i)) (Front f (drop (length w) i)) (Front (past w f) i) (sound f (and_parts (is_clear f) _ (and_parts (not (is_empty w)) _ k).1).0 d (drop (length w) i)) (λ v r x. (w ++ x.0, begins_splits w i e ∙ ap (λ z. w ++ z) x.1 ∙ sym (append_assoc w x.0 r), inl (x.0, refl, x.2))))
+    (holds_weak (read d f i) (Front f i) (Front (past w f) i) (sound f (and_parts (is_clear f) _ (and_parts (not (is_empty w)) _ k).1).0 d i) (λ v r x. (x.0, x.1, inr x.2)))
   where
     by : (t : Bool) → begins w i ≡ t → (begins w i ≡ true → Holds (Front (past w f) i) (read d f (drop (length w) i))) → Holds (Front (past w f) i) (read d f i) → Holds (Front (past w f) i) (read d f (if t then drop (length w) i else i))
     by true e x y = x e
     by false e x y = y
-sound (pair f g) d i = holds_bind (read d f i) (λ a. read d g >>= (λ b. pure (a, b))) (Front f i) (Front (pair f g) i) (sound f d i) (λ a j x.
-    holds_bind (read d g j) (λ b. pure (a, b)) (Front g j) (Front (pair f g) i) (sound g d j) (λ b k y.
+sound (pair f g) k d i = holds_bind (read d f i) (λ a. read d g >>= (λ b. pure (a, b))) (Front f i) (Front (pair f g) i) (sound f (and_parts (is_clear f) _ k).0 d i) (λ a j x.
+    holds_bind (read d g j) (λ b. pure (a, b)) (Front g j) (Front (pair f g) i) (sound g (and_parts (is_clear g) _ (and_parts (is_clear f) _ k).1).0 d j) (λ b k y.
     (x.0 ++ y.0, x.1 ∙ ap (λ z. x.0 ++ z) y.1 ∙ sym (append_assoc x.0 y.0 k), (x.0, y.0, refl, x.2, y.2))))
-sound (made m f) d i = holds_bind (read d f i) (λ a. pure (m a)) (Front f i) (Front (made m f) i) (sound f d i) (λ a j x. (x.0, x.1, (a, refl, x.2)))
-sound (either w f g) d i = eats_word w i (λ found. if found then read d f else read d g) (Front (either w f g) i)
-    (λ j e. holds_weak (read d f j) (Front f j) (Front (either w f g) i) (sound f d j) (λ v r x. (w ++ x.0, e ∙ ap (λ z. w ++ z) x.1 ∙ sym (append_assoc w x.0 r), inl (x.0, refl, x.2))))
-    (holds_weak (read d g i) (Front g i) (Front (either w f g) i) (sound g d i) (λ v r x. (x.0, x.1, inr x.2)))
-sound {A = A} (by_first p f g) d i = by (passes p i)
-    (holds_weak (read d f i) (Front f i) (Front (by_first p f g) i) (sound f d i) (λ v r x. (x.0, x.1, inl x.2)))
-    (holds_weak (read d g i) (Front g i) (Front (by_first p f g) i) (sound g d i) (λ v r x. (x.0, x.1, inr x.2)))
+sound (made m f) k d i = holds_bind (read d f i) (λ a. pure (m a)) (Front f i) (Front (made m f) i) (sound f k d i) (λ a j x. (x.0, x.1, (a, refl, x.2)))
+sound (either w f g) k d i = eats_word w i (λ found. if found then read d f else read d g) (Front (either w f g) i)
+    (λ j e. holds_weak (read d f j) (Front f j) (Front (either w f g) i) (sound f (and_parts (is_clear f) _ (and_parts (not (is_empty w)) _ k).1).0 d j) (λ v r x. (w ++ x.0, e ∙ ap (λ z. w ++ z) x.1 ∙ sym (append_assoc w x.0 r), inl (x.0, refl, x.2))))
+    (holds_weak (read d g i) (Front g i) (Front (either w f g) i) (sound g (and_parts (is_clear g) _ (and_parts (is_clear f) _ (and_parts (not (is_empty w)) _ k).1).1).0 d i) (λ v r x. (x.0, x.1, inr x.2)))
+sound {A = A} (by_first p f g) k d i = by (passes p i)
+    (holds_weak (read d f i) (Front f i) (Front (by_first p f g) i) (sound f (and_parts (is_clear f) _ k).0 d i) (λ v r x. (x.0, x.1, inl x.2)))
+    (holds_weak (read d g i) (Front g i) (Front (by_first p f g) i) (sound g (and_parts (is_clear g) _ (and_parts (is_clear f) _ k).1).0 d i) (λ v r x. (x.0, x.1, inr x.2)))
   where
     by : (t : Bool) → Holds (Front (by_first p f g) i) (read d f i) → Holds (Front (by_first p f g) i) (read d g i) → Holds (Front (by_first p f g) i) (if◌then◌else◌ {A = Outcome A} t (read d f i) (read d g i))
     by true x y = x
     by false x y = y
-sound (list f) d i = list_sound (Spells f) (read d f) (sound f d) i
-sound (many f) d i = many_sound (Spells f) (read d f) (sound f d) (length i) [] [] i none
-sound an_expr d i = within_sound d i
-sound a_ref d i = ref_sound d i
-sound a_whole_ref d i = holds_bind (and_then (reference (expr_within d) i) ref_of) whole_of (Front a_ref i) (Front a_whole_ref i) (ref_sound d i) (λ v r x. by v r x (is_none ((out-Ref v).part)) refl)
+sound (list f) k d i = list_sound (Spells f) (read d f) (sound f (and_parts (is_clear f) _ k).0 d) i
+sound (many f) k d i = many_sound (Spells f) (read d f) (sound f (and_parts (is_clear f) _ k).0 d) (length i) [] [] i none
+sound (a_part R p) k d i = cc
+sound an_expr k d i = within_sound d i
+sound a_ref k d i = ref_sound d i
+sound a_whole_ref k d i = holds_bind (and_then (reference (expr_within d) i) ref_of) whole_of (Front a_ref i) (Front a_whole_ref i) (ref_sound d i) (λ v r x. by v r x (is_none ((out-Ref v).part)) refl)
   where
     by : (v : Ref) (r : Text) → Front a_ref i v r → (t : Bool) → is_none ((out-Ref v).part) ≡ t → Holds (Front a_whole_ref i) ((if◌then◌else◌ {A = Parser Ref} t (pure v) refuse) r)
     by v r x true e = (x.0, x.1, (x.2, e))
     by v r x false e = tt
-sound a_name d i = holds_weak (name i) (λ n r. (i ≡ n ++ r) × IsName n) (Front a_name i) (name_sound i) (λ n r x. (n, x.0, (refl, x.1)))
-sound a_label d i = label_sound i
-sound some_digits d i = short_sound i
-sound a_number d i = number_is_sound i
-sound a_constant d i = constant_is_sound i
-sound a_letter d i = letter_sound i
+sound a_name k d i = holds_weak (name i) (λ n r. (i ≡ n ++ r) × IsName n) (Front a_name i) (name_sound i) (λ n r x. (n, x.0, (refl, x.1)))
+sound a_label k d i = label_sound i
+sound some_digits k d i = short_sound i
+sound a_number k d i = number_is_sound i
+sound a_constant k d i = constant_is_sound i
+sound a_letter k d i = letter_sound i

@@ -35,6 +35,8 @@ pub data Form : Type 0 → Type 1 where
   list : {A : Type 0} → Form A → Form (List A)
   -- none or more, up to the end of the text
   many : {A : Type 0} → Form A → Form (List A)
+  -- a part that is spelled and read by definitions of its own
+  a_part : {A : Type 0} → (A → Text → Type 0) → (ℕ → Parser A) → Form A
   -- expr (section 6)
   an_expr : Form Expr
   -- ref (sections 2.2, 5.3, 5.7.1 and 15.2)
@@ -94,6 +96,7 @@ Spells (either w f g) v s = ((t : Text) × (s ≡ w ++ t) × Spells f v t) ⊎ S
 Spells (by_first p f g) v s = Spells f v s ⊎ Spells g v s
 Spells (list f) v s = SpellsList (Spells f) v s
 Spells (many f) v s = SpellsMany (Spells f) v s
+Spells (a_part R p) v s = R v s
 Spells an_expr v s = SpellsExpr s v
 Spells a_ref v s = spelling.Spells 0 (expr.Ref v) s
 Spells a_whole_ref v s = spelling.Spells 0 (expr.Ref v) s × IsTrue (is_none ((out-Ref v).part))
@@ -190,6 +193,7 @@ read d (either w f g) = eat_word w >>= (λ found. if found then read d f else re
 read d (by_first p f g) = λ i. if passes p i then read d f i else read d g i
 read d (list f) = list_of (read d f)
 read d (many f) = λ i. many_of (read d f) (length i) [] i
+read d (a_part R p) = p d
 read d an_expr = expr_within d
 read d a_ref = reference (expr_within d) >>= ref_of
 read d a_whole_ref = reference (expr_within d) >>= ref_of >>= whole_of

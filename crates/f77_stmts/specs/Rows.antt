@@ -8,14 +8,34 @@ use Rattle.f77_ast.specs.declared.specification.TypeSpec.TheVariants as typ
 use Rattle.f77_ast.specs.declared.specification.TypedDeclarator.{TypedDeclarator}
 use Rattle.f77_ast.specs.declared.stmt.Stmt.{Stmt}
 use Rattle.f77_ast.specs.declared.stmt.Stmt.TheVariants as stmt
+use Rattle.f77_ast.specs.declared.stmt.Item.{Item}
 use Rattle.f77_ast.specs.declared.stmt.LoopControl.{LoopControl}
-use Rattle.f77_exprs.specs.Operators.{Text}
+use Rattle.f77_exprs.specs.Operators.{Text, begins, first_passing}
 use Rattle.f77_stmts.specs.declared.keyword.Keyword.{Keyword}
 use Rattle.f77_stmts.specs.declared.keyword.Keyword.TheVariants as word
 use Rattle.f77_stmts.specs.declared.typed.Typed.{Typed}
 use Rattle.f77_stmts.specs.declared.typed.Typed.TheVariants as typed
 use Rattle.f77_stmts.specs.Form.{Form, nothing, after, before, past, pair, made, either, by_first, list, many, an_expr, a_ref, a_name, a_label}
+use Rattle.f77_stmts.specs.Items.{some_items}
 use Rattle.f77_stmts.specs.Parts.{is_any, control, dummies, dummy_list, argument_list, stop_codes, len, entity, text_entity, array, group, named, implicit_rule, save_entries, data_groups}
+
+-- the first words, in the order of their search
+abbrev pub keywords : List Keyword
+keywords = word.Do ∷ word.Continue ∷ word.Return ∷ word.ElseIf ∷ word.Else ∷ word.EndIf ∷ word.End ∷ word.Stop ∷ word.ComputedGoto ∷ word.Goto ∷ word.Call ∷ word.Print ∷ word.Write ∷ word.ReadList ∷ word.ReadUnit ∷ word.Program ∷ word.Subroutine ∷ word.Function ∷ word.Integer ∷ word.Logical ∷ word.Character ∷ word.Dimension ∷ word.Equivalence ∷ word.Parameter ∷ word.Implicit ∷ word.Save ∷ word.Data ∷ []
+
+-- the first words of statements that a logical IF may hold
+abbrev pub is_action : Keyword → Bool
+is_action word.Continue = true
+is_action word.Return = true
+is_action word.Stop = true
+is_action word.ComputedGoto = true
+is_action word.Goto = true
+is_action word.Call = true
+is_action word.Print = true
+is_action word.Write = true
+is_action word.ReadList = true
+is_action word.ReadUnit = true
+is_action _ = false
 
 -- how each first word is spelled
 abbrev pub spelling : Keyword → Text
@@ -30,6 +50,10 @@ spelling word.Stop = codes "STOP"
 spelling word.ComputedGoto = codes "GOTO("
 spelling word.Goto = codes "GOTO"
 spelling word.Call = codes "CALL"
+spelling word.Print = codes "PRINT*"
+spelling word.Write = codes "WRITE(*,*)"
+spelling word.ReadList = codes "READ*,"
+spelling word.ReadUnit = codes "READ(*,*)"
 spelling word.Program = codes "PROGRAM"
 spelling word.Subroutine = codes "SUBROUTINE"
 spelling word.Function = codes "FUNCTION"
@@ -42,6 +66,14 @@ spelling word.Parameter = codes "PARAMETER("
 spelling word.Implicit = codes "IMPLICIT"
 spelling word.Save = codes "SAVE"
 spelling word.Data = codes "DATA"
+
+-- whether a text begins with a word
+abbrev pub is_here : Keyword → Text → Bool
+is_here k i = begins (spelling k) i
+
+-- the word with which a text begins
+abbrev pub keyword_at : Text → Option Keyword
+keyword_at i = first_passing is_here keywords i
 
 -- ---- statements of a type
 
@@ -81,6 +113,16 @@ with_length = made (λ v. typed_by (typ.Character (Some v.0)) v.1) (pair len beh
 abbrev pub without_length : Form Stmt
 without_length = made (typed_by (typ.Character None)) behind_character
 
+-- ---- items
+
+-- [`,` list(item)]
+abbrev pub printed : Form (List Item)
+printed = by_first is_any (after (codes ",") (some_items false)) (nothing [])
+
+-- [list(item)]
+abbrev pub written : Form (List Item)
+written = by_first is_any (some_items false) (nothing [])
+
 -- ---- the rows
 
 -- Assign: ref `=` expr (section 10)
@@ -117,6 +159,14 @@ rule word.ComputedGoto = made (λ v. stmt.ComputedGoto v.0 v.1) (pair (before (l
 rule word.Goto = made (λ v. stmt.Goto v) a_label
 -- Call: `CALL` name [`(` [list(expr)] `)`] (section 15.6.2.1)
 rule word.Call = made (λ v. stmt.Call v.0 v.1) (pair a_name argument_list)
+-- Print: `PRINT*` [`,` list(item)] (section 12.8)
+rule word.Print = made (λ all. stmt.Print all) printed
+-- Print: `WRITE(*,*)` [list(item)] (section 12.8)
+rule word.Write = made (λ all. stmt.Print all) written
+-- Read: `READ*,` list(item), whose plain items are refs (section 12.8)
+rule word.ReadList = made (λ all. stmt.Read all) (some_items true)
+-- Read: `READ(*,*)` list(item), whose plain items are refs (section 12.8)
+rule word.ReadUnit = made (λ all. stmt.Read all) (some_items true)
 -- Program: `PROGRAM` name (section 14.1)
 rule word.Program = made (λ n. stmt.Program n) a_name
 -- Subroutine: `SUBROUTINE` name [`(` [list(name)] `)`] (section 15.6.1)

@@ -6,6 +6,7 @@ ghost use Rattle.f77_stmts.specs.Rows.{rule};
 
 use crate::flow::{call, computed_goto, else_if, goto, loop_statement, stop};
 use crate::headings::{character, function, integer, logical, program, subroutine};
+use crate::items::{print, read_list, read_unit, write};
 use crate::keyword::Keyword;
 use crate::specifications::{dimension, equivalence, implicit, init, parameter, save};
 use f77_ast::stmt::Stmt;
@@ -34,6 +35,10 @@ pub fn behind(
         Keyword::ComputedGoto => computed_goto(alloc, reader, depth),
         Keyword::Goto => goto(reader),
         Keyword::Call => call(alloc, reader, depth),
+        Keyword::Print => print(alloc, reader, depth),
+        Keyword::Write => write(alloc, reader, depth),
+        Keyword::ReadList => read_list(alloc, reader, depth),
+        Keyword::ReadUnit => read_unit(alloc, reader, depth),
         Keyword::Program => program(reader),
         Keyword::Subroutine => subroutine(alloc, reader, depth),
         Keyword::Function => function(alloc, reader, depth),
