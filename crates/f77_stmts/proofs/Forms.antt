@@ -124,7 +124,7 @@ next_weak : (p q : ℕ → Bool) → ((c : ℕ) → p c ≡ true → q c ≡ tru
 next_weak p q w [] h = tt
 next_weak p q w (c ∷ r) h = w c h
 
-begins_own : (w r : Text) → begins w (w ++ r) ≡ true
+pub begins_own : (w r : Text) → begins w (w ++ r) ≡ true
 begins_own [] r = refl
 begins_own (c ∷ w) r = let e : (c == c) ≡ true = grind arith in rw (e, begins_own w r) refl
 
@@ -318,13 +318,13 @@ avoided (b ∷ w) g some e k v s r h n z = either_true (list_all (λ c. not (c =
 
 -- ---- what is spelled is read
 
-word_read : {A : Type 0} (w r : Text) (go : Parser A) → and_then (expect_word w (w ++ r)) (λ _. go) ≡ go r
+pub word_read : {A : Type 0} (w r : Text) (go : Parser A) → and_then (expect_word w (w ++ r)) (λ _. go) ≡ go r
 word_read w r go = rw (begins_own w r, drop_all w r) refl
 
-word_eaten : {A : Type 0} (w r : Text) (go : Bool → Parser A) → and_then (eat_word w (w ++ r)) go ≡ go true r
+pub word_eaten : {A : Type 0} (w r : Text) (go : Bool → Parser A) → and_then (eat_word w (w ++ r)) go ≡ go true r
 word_eaten w r go = rw (begins_own w r, drop_all w r) refl
 
-word_left : {A : Type 0} (w r : Text) (go : Bool → Parser A) → begins w r ≡ false → and_then (eat_word w r) go ≡ go false r
+pub word_left : {A : Type 0} (w r : Text) (go : Bool → Parser A) → begins w r ≡ false → and_then (eat_word w r) go ≡ go false r
 word_left w r go e = rw e refl
 
 -- members of a list
@@ -604,7 +604,7 @@ one_tree f k v w s h g =
 abbrev pub Front : {A : Type 0} → Form A → Text → A → Text → Type 0
 Front f i v r = (s : Text) × (i ≡ s ++ r) × Spells f v s
 
-word_sound : (w i : Text) → Holds {A = Unit {0}} (λ u r. i ≡ w ++ r) (expect_word w i)
+pub word_sound : (w i : Text) → Holds {A = Unit {0}} (λ u r. i ≡ w ++ r) (expect_word w i)
 word_sound w i = by (begins w i) refl
   where
     by : (t : Bool) → begins w i ≡ t → Holds {A = Unit {0}} (λ u r. i ≡ w ++ r) (if t then Some (tt {0}, drop (length w) i) else None)

@@ -32,7 +32,7 @@ fn plain(alloc: Global, reader: &mut Reader<'_>, depth: usize, refs: bool) -> Re
 }
 
 /// Whether a text begins with letters and digits, or nothing, and then `=`.
-fn is_control(text: &[u8]) -> bool
+pub fn is_control(text: &[u8]) -> bool
     ensures { result ≡ items.is_control text.now }
 {
     let (_, behind) = text.split_at(alphanumerics(text));

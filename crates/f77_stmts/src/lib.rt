@@ -2,12 +2,14 @@
 #![tactic(auto)]
 
 pub mod bounds;
+pub mod cause;
 pub mod control;
 pub mod data;
 pub mod flow;
 pub mod headings;
 pub mod items;
 pub mod keyword;
+pub mod laws;
 pub mod leaves;
 pub mod lengths;
 pub mod list;
@@ -18,4 +20,5 @@ pub mod sees;
 pub mod shared;
 pub mod specifications;
 pub mod statement;
+pub mod stmt;
 pub mod typed;

@@ -1,5 +1,6 @@
 //! Statements, as they are read from their texts: as an assignment, or by the first word.
-ghost use Rattle.std.specs.Prelude.{◌≡◌, ◌≤◌, true, false, length, IfOk};
+ghost use Rattle.std.specs.Prelude.{◌≡◌, true, false, drop, IfOk, option_map};
+ghost use Rattle.f77_ast.specs.declared.stmt.Stmt.TheVariants as stmt;
 ghost use Rattle.f77_exprs.specs.Read.{Reads};
 ghost use Rattle.f77_exprs.specs.Reading.{Outcome};
 ghost use Rattle.f77_stmts.specs.Form.{read};
@@ -109,4 +110,135 @@ fn arithmetic(value: Expr, text: &[u8]) -> Result<Option<Stmt>, NoMemory>
         })),
         None => Ok(None),
     }
+}
+
+/// expr `)`
+fn condition(alloc: Global, reader: &mut Reader<'_>, depth: usize) -> Result<Expr, Unread>
+    ensures { Reads (read depth spec.condition reader.old) result reader.new }
+{
+    let found = expr_within(alloc, reader, depth)?;
+    expect_word(reader, b")".as_slice())?;
+    Ok(found)
+}
+
+/// What stands behind a condition, where only an arithmetic IF is sought.
+fn jumps_behind(value: Expr, text: &[u8]) -> Result<Option<Stmt>, NoMemory>
+    ensures { IfOk result (λ v. v ≡ spec.jumps_behind 0 value text.now) }
+{
+    if sees_digit(&Reader::new(text)) {
+        arithmetic(value, text)
+    } else {
+        Ok(None)
+    }
+}
+
+/// Whether a text begins with `IF(`.
+fn is_if(text: &[u8]) -> bool
+    ensures { result ≡ spec.is_if text.now }
+{
+    begins(b"IF(".as_slice(), text)
+}
+
+/// Whether a text is `THEN`.
+fn is_then(text: &[u8]) -> bool
+    ensures { result ≡ spec.is_then text.now }
+{
+    begins(b"THEN".as_slice(), text) && text.len() <= 4
+}
+
+/// A text without `IF(`.
+fn behind_if(text: &[u8]) -> &[u8]
+    ensures { result.now ≡ drop 3 text.now }
+{
+    text.split_at(text.len().min(3)).1
+}
+
+/// What stands behind `IF(`, if an arithmetic IF does.
+fn if_with_jumps(alloc: Global, text: &[u8], depth: usize) -> Result<Option<Stmt>, NoMemory>
+    ensures { IfOk result (λ v. v ≡ spec.if_by (spec.jumps_behind 0) (read depth spec.condition text.now)) }
+{
+    let mut reader = Reader::new(text);
+    match condition(alloc, &mut reader, depth) {
+        Ok(value) => jumps_behind(value, reader.rest()),
+        Err(Unread::Unspelled) => Ok(None),
+        Err(Unread::NoMemory) => Err(NoMemory),
+    }
+}
+
+/// The statement that is read of a text, if a logical IF may hold it: Assign, Continue, Goto, ComputedGoto, ArithmeticIf,
+/// Call, Return, Stop, Print or Read.
+#[tactic(auto, unfolding(crate::specs::Statement::action_within))]
+fn action(alloc: Global, text: &[u8], depth: usize) -> Result<Option<Stmt>, NoMemory>
+    ensures { IfOk result (λ v. v ≡ spec.action_within depth text.now) }
+{
+    if let Some(found) = assigned(alloc, text, depth)? {
+        return Ok(Some(found));
+    }
+    if is_if(text) {
+        return if_with_jumps(alloc, behind_if(text), depth);
+    }
+    by_word(alloc, text, depth, false)
+}
+
+/// LogicalIf: `IF(` expr `)` and one of the statements that it may hold (ANSI X3.9-1978, section 11.5), behind its
+/// condition
+fn logical(
+    alloc: Global,
+    condition: Expr,
+    text: &[u8],
+    depth: usize,
+) -> Result<Option<Stmt>, NoMemory>
+    ensures { IfOk result (λ v. v ≡ option_map (λ inner. stmt.LogicalIf condition inner) (spec.action_within depth text.now)) }
+{
+    match action(alloc, text, depth)? {
+        Some(inner) => Ok(Some(Stmt::LogicalIf {
+            condition,
+            inner: Boxed::new(alloc, inner)?,
+        })),
+        None => Ok(None),
+    }
+}
+
+/// What stands behind a condition: three labels, `THEN`, or a statement (ANSI X3.9-1978, sections 11.4 to 11.6)
+fn any_behind(
+    alloc: Global,
+    condition: Expr,
+    text: &[u8],
+    depth: usize,
+) -> Result<Option<Stmt>, NoMemory>
+    ensures { IfOk result (λ v. v ≡ spec.any_behind depth condition text.now) }
+{
+    if sees_digit(&Reader::new(text)) {
+        return arithmetic(condition, text);
+    }
+    if is_then(text) {
+        return Ok(Some(Stmt::BlockIf(condition)));
+    }
+    logical(alloc, condition, text, depth)
+}
+
+/// What stands behind `IF(`.
+fn if_with_any(alloc: Global, text: &[u8], depth: usize) -> Result<Option<Stmt>, NoMemory>
+    ensures { IfOk result (λ v. v ≡ spec.if_by (spec.any_behind depth) (read depth spec.condition text.now)) }
+{
+    let mut reader = Reader::new(text);
+    match condition(alloc, &mut reader, depth) {
+        Ok(condition) => any_behind(alloc, condition, reader.rest(), depth),
+        Err(Unread::Unspelled) => Ok(None),
+        Err(Unread::NoMemory) => Err(NoMemory),
+    }
+}
+
+/// The statement that is read of a text, in which parentheses nest less deep than `depth`.
+#[tactic(auto, unfolding(crate::specs::Statement::statement_within))]
+pub fn statement(alloc: Global, text: &[u8], depth: usize) -> Result<Option<Stmt>, NoMemory>
+    ensures { IfOk result (λ v. v ≡ spec.statement_within depth text.now) }
+{
+    if let Some(found) = assigned(alloc, text, depth)? {
+        return Ok(Some(found));
+    }
+    if is_if(text) {
+        return if_with_any(alloc, behind_if(text), depth);
+    }
+    by_word(alloc, text, depth, true)
 }
