@@ -311,5 +311,5 @@ read_is_spelled text v e = if_some (IsStatement text) (statement_of text) v (sta
 pub answers_statement : (line : ℕ) (text : Text) (v : Stmt) → Some v ≡ statement_of text → Answers line text (Ok v)
 answers_statement line text v e = (read_is_spelled text v (sym e), λ other h. one_statement text other v h (read_is_spelled text v (sym e)))
 
-pub answers_none : (line : ℕ) (text : Text) (code : ℕ) → None ≡ statement_of text → code ≡ code_of text → Answers line text (Err (Refused (record { line = line; code = code })))
-answers_none line text code e is = ((λ v h. let k : None ≡ Some v = e ∙ spelled_is_read text v h in cc), ap (λ c. record { line = line; code = c }) is)
+pub answers_none : (line : ℕ) (text : Text) (refusal : Refusal) → None ≡ statement_of text → refusal ≡ record { line = line; code = code_of text } → Answers line text (Err (Refused refusal))
+answers_none line text refusal e is = ((λ v h. let k : None ≡ Some v = e ∙ spelled_is_read text v h in cc), is)

@@ -1,6 +1,7 @@
 //! The statement that a card spells.
 ghost use Rattle.std.specs.Prelude.{◌≡◌, IfOk};
 ghost use Rattle.f77_stmts.specs.Answer.{Answers};
+ghost use Rattle.f77_stmts.specs.Cause.{code_of};
 ghost use Rattle.f77_stmts.specs.Statement as spec;
 
 use crate::cause::code_of;
@@ -18,6 +19,24 @@ fn read(alloc: Global, text: &[u8]) -> Result<Option<Stmt>, NoMemory>
     statement(alloc, text, text.len() + 1)
 }
 
+/// Why a text that spells no statement is refused, at its line.
+fn refusal(alloc: Global, line: u32, text: &[u8]) -> Result<Refusal, NoMemory>
+    ensures { IfOk result (λ refusal. refusal ≡ record { line = line; code = code_of text.now }) }
+{
+    let code = code_of(alloc, text)?;
+    Ok(Refusal { line, code })
+}
+
+/// The one statement that the text of a line spells, or why there is none.
+fn answer(alloc: Global, line: u32, text: &[u8]) -> Result<Stmt, FrontError>
+    ensures { Answers line text.now result }
+{
+    match read(alloc, text)? {
+        Some(found) => Ok(found),
+        None => Err(FrontError::Refused(refusal(alloc, line, text)?)),
+    }
+}
+
 /// The one statement that a card's text spells (ANSI X3.9-1978, sections 8 to 15). No word is reserved: `DO10I=1,2` is a
 /// loop, `DO10I=1` an assignment.
 ///
@@ -30,12 +49,5 @@ fn read(alloc: Global, text: &[u8]) -> Result<Option<Stmt>, NoMemory>
 pub fn stmt(alloc: Global, card: &Card) -> Result<Stmt, FrontError>
     ensures { Answers card.now.line card.now.text result }
 {
-    let text = card.text.as_slice();
-    match read(alloc, text)? {
-        Some(found) => Ok(found),
-        None => Err(FrontError::Refused(Refusal {
-            line: card.line,
-            code: code_of(alloc, text)?,
-        })),
-    }
+    answer(alloc, card.line, card.text.as_slice())
 }
