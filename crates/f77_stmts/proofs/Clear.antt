@@ -38,6 +38,7 @@ rule_is_clear word.Integer e = refl
 rule_is_clear word.Logical e = refl
 rule_is_clear word.Character e = refl
 rule_is_clear word.Dimension e = refl
+rule_is_clear word.Common e = refl
 rule_is_clear word.Equivalence e = refl
 rule_is_clear word.Parameter e = refl
 rule_is_clear word.Implicit e = refl

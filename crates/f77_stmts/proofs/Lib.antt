@@ -1,4 +1,5 @@
 pub mod Clear
+pub mod CommonTurns
 pub mod Forms
 pub mod IfLemmas
 pub mod Induction

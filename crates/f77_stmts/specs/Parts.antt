@@ -1,5 +1,5 @@
 -- The parts that several statements share, as productions.
-use Rattle.std.specs.Prelude.{ℕ, ℤ, neg_ℤ, Bool, true, false, ◌||◌, ◌==◌, List, [], ◌∷◌, Option, Some, None, codes}
+use Rattle.std.specs.Prelude.{ℕ, ℤ, neg_ℤ, Bool, true, false, ◌||◌, ◌==◌, List, [], ◌∷◌, ◌++◌, length, Option, Some, None, codes}
 use Rattle.std.specs.Char.{is_ascii_digit}
 use Rattle.f77_ast.specs.Name.{is_letter}
 use Rattle.f77_ast.specs.declared.expr.Expr.{Expr}
@@ -11,6 +11,7 @@ use Rattle.f77_ast.specs.declared.initial.DataValue.{DataValue}
 use Rattle.f77_ast.specs.declared.initial.Repeat.{Repeat}
 use Rattle.f77_ast.specs.declared.initial.Repeat.TheVariants as repeat
 use Rattle.f77_ast.specs.declared.specification.Bound.{Bound}
+use Rattle.f77_ast.specs.declared.specification.CommonGroup.{CommonGroup}
 use Rattle.f77_ast.specs.declared.specification.Declarator.{Declarator}
 use Rattle.f77_ast.specs.declared.specification.EquivalenceGroup.{EquivalenceGroup}
 use Rattle.f77_ast.specs.declared.specification.ImplicitRule.{ImplicitRule}
@@ -27,7 +28,10 @@ use Rattle.f77_ast.specs.declared.stmt.LoopControl.{LoopControl}
 use Rattle.f77_ast.specs.declared.stmt.StopCode.{StopCode}
 use Rattle.f77_ast.specs.declared.stmt.StopCode.TheVariants as stop
 use Rattle.f77_exprs.specs.Operators.{Text}
-use Rattle.f77_stmts.specs.Form.{Form, nothing, after, before, past, pair, made, either, by_first, list, many, maybe, an_expr, a_whole_ref, a_name, a_label, some_digits, a_number, a_constant, a_letter}
+use Rattle.f77_exprs.specs.Reading.{Parser, and_then, pure}
+use Rattle.f77_stmts.specs.declared.common.CommonStep.{CommonStep}
+use Rattle.f77_stmts.specs.declared.common.CommonStep.TheVariants as step_of
+use Rattle.f77_stmts.specs.Form.{Form, nothing, after, before, past, pair, made, either, by_first, list, many, maybe, an_expr, a_whole_ref, read, many_of, a_name, a_label, some_digits, a_number, a_constant, a_letter}
 
 -- any byte
 abbrev pub is_any : ℕ → Bool
@@ -143,6 +147,58 @@ entity = made (λ d. entity_of (d, None)) decl
 -- decl [`*` len] (section 8.4.2)
 abbrev pub text_entity : Form TypedDeclarator
 text_entity = made entity_of (pair decl len_option)
+
+-- ---- COMMON
+
+-- what stands behind `/`: [name] `/`
+abbrev pub block_name : Form (Option Text)
+block_name = either (codes "/") (nothing None) (made (λ n. Some n) (before a_name (codes "/")))
+
+-- [`/` [name] `/`]
+abbrev pub first_block : Form (Option Text)
+first_block = either (codes "/") block_name (nothing None)
+
+-- what stands behind `/`: [name] `/` and the first member of another group
+abbrev pub new_group : Form CommonStep
+new_group = made (λ v. step_of.Group v.0 v.1) (pair block_name decl)
+
+-- a member of the same group
+abbrev pub same_group : Form CommonStep
+same_group = made (λ d. step_of.Member d) decl
+
+-- what stands behind `,`: `/` [name] `/` and the first member of another group, or a member of the same
+abbrev pub behind_comma : Form CommonStep
+behind_comma = either (codes "/") new_group same_group
+
+-- what stands behind a member: `,` and a member of the same group; or [`,`] `/` [name] `/` and the first member of another
+abbrev pub common_step : Form CommonStep
+common_step = either (codes "/") new_group (after (codes ",") behind_comma)
+
+-- the groups before the last, and the last
+abbrev pub Groups : Type 0
+Groups = List CommonGroup × CommonGroup
+
+-- a first member makes a group
+abbrev pub started : Option Text × Declarator → Groups
+started v = ([], record { block = v.0; members = v.1 ∷ [] })
+
+-- one member more
+abbrev pub advanced : Groups → CommonStep → Groups
+advanced g (step_of.Member d) = (g.0, record { block = g.1.block; members = g.1.members ++ d ∷ [] })
+advanced g (step_of.Group b d) = (g.0 ++ g.1 ∷ [], record { block = b; members = d ∷ [] })
+
+-- all groups
+abbrev pub groups_of : Groups → List CommonStep → List CommonGroup
+groups_of g [] = g.0 ++ g.1 ∷ []
+groups_of g (one ∷ steps) = groups_of (advanced g one) steps
+
+-- what is read behind the first member
+abbrev pub later_groups : ℕ → CommonGroup → Parser (List CommonGroup)
+later_groups d first = λ i. and_then (many_of (read d common_step) (length i) [] i) (λ steps. pure (groups_of ([], first) steps))
+
+-- groups [`/` [name] `/`] list(decl), with [`,`] between, of which only the first may lack its slashes (section 8.3)
+abbrev pub common_groups : Form (List CommonGroup)
+common_groups = made (λ v. groups_of (started v.0) v.1) (pair (pair first_block decl) (many common_step))
 
 -- ---- EQUIVALENCE, PARAMETER, IMPLICIT and SAVE
 

@@ -17,11 +17,11 @@ use Rattle.f77_stmts.specs.declared.typed.Typed.{Typed}
 use Rattle.f77_stmts.specs.declared.typed.Typed.TheVariants as typed
 use Rattle.f77_stmts.specs.Form.{Form, nothing, after, before, past, pair, made, either, by_first, list, many, an_expr, a_ref, a_name, a_label}
 use Rattle.f77_stmts.specs.Items.{some_items}
-use Rattle.f77_stmts.specs.Parts.{is_any, control, dummies, dummy_list, argument_list, stop_codes, len, entity, text_entity, array, group, named, implicit_rule, save_entries, data_groups}
+use Rattle.f77_stmts.specs.Parts.{is_any, control, dummies, dummy_list, argument_list, stop_codes, len, entity, text_entity, array, common_groups, group, named, implicit_rule, save_entries, data_groups}
 
 -- the first words, in the order of their search
 abbrev pub keywords : List Keyword
-keywords = word.Do ∷ word.Continue ∷ word.Return ∷ word.ElseIf ∷ word.Else ∷ word.EndIf ∷ word.End ∷ word.Stop ∷ word.ComputedGoto ∷ word.Goto ∷ word.Call ∷ word.Print ∷ word.Write ∷ word.ReadList ∷ word.ReadUnit ∷ word.Program ∷ word.Subroutine ∷ word.Function ∷ word.Integer ∷ word.Logical ∷ word.Character ∷ word.Dimension ∷ word.Equivalence ∷ word.Parameter ∷ word.Implicit ∷ word.Save ∷ word.Data ∷ []
+keywords = word.Do ∷ word.Continue ∷ word.Return ∷ word.ElseIf ∷ word.Else ∷ word.EndIf ∷ word.End ∷ word.Stop ∷ word.ComputedGoto ∷ word.Goto ∷ word.Call ∷ word.Print ∷ word.Write ∷ word.ReadList ∷ word.ReadUnit ∷ word.Program ∷ word.Subroutine ∷ word.Function ∷ word.Integer ∷ word.Logical ∷ word.Character ∷ word.Dimension ∷ word.Common ∷ word.Equivalence ∷ word.Parameter ∷ word.Implicit ∷ word.Save ∷ word.Data ∷ []
 
 -- the first words of statements that a logical IF may hold
 abbrev pub is_action : Keyword → Bool
@@ -61,6 +61,7 @@ spelling word.Integer = codes "INTEGER"
 spelling word.Logical = codes "LOGICAL"
 spelling word.Character = codes "CHARACTER"
 spelling word.Dimension = codes "DIMENSION"
+spelling word.Common = codes "COMMON"
 spelling word.Equivalence = codes "EQUIVALENCE"
 spelling word.Parameter = codes "PARAMETER("
 spelling word.Implicit = codes "IMPLICIT"
@@ -182,6 +183,9 @@ rule word.Logical = made (typed_by typ.Logical) behind_type
 rule word.Character = either (codes "*") with_length without_length
 -- Dimension: `DIMENSION` list(name `(` list(bound) `)`) (section 8.1)
 rule word.Dimension = made (λ v. stmt.Dimension v) (list array)
+-- Common: `COMMON` and groups [`/` [name] `/`] list(decl), with [`,`] between; only the first may lack its slashes
+-- (section 8.3)
+rule word.Common = made (λ v. stmt.Common v) common_groups
 -- Equivalence: `EQUIVALENCE` list of `(` ref `,` list(ref) `)`, without substrings (section 8.2)
 rule word.Equivalence = made (λ v. stmt.Equivalence v) (list group)
 -- Parameter: `PARAMETER(` list(name `=` expr) `)` (section 8.6)

@@ -52,6 +52,8 @@ pub enum Keyword {
     Character,
     /// `DIMENSION`.
     Dimension,
+    /// `COMMON`.
+    Common,
     /// `EQUIVALENCE`.
     Equivalence,
     /// `PARAMETER(`.
@@ -92,6 +94,7 @@ impl Keyword {
             Keyword::Logical => b"LOGICAL".as_slice(),
             Keyword::Character => b"CHARACTER".as_slice(),
             Keyword::Dimension => b"DIMENSION".as_slice(),
+            Keyword::Common => b"COMMON".as_slice(),
             Keyword::Equivalence => b"EQUIVALENCE".as_slice(),
             Keyword::Parameter => b"PARAMETER(".as_slice(),
             Keyword::Implicit => b"IMPLICIT".as_slice(),
@@ -167,6 +170,7 @@ pub fn keyword_at(text: &[u8]) -> Option<Keyword>
             Keyword::Logical,
             Keyword::Character,
             Keyword::Dimension,
+            Keyword::Common,
             Keyword::Equivalence,
             Keyword::Parameter,
             Keyword::Implicit,

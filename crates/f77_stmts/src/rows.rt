@@ -8,7 +8,7 @@ use crate::flow::{call, computed_goto, else_if, goto, loop_statement, stop};
 use crate::headings::{character, function, integer, logical, program, subroutine};
 use crate::items::{print, read_list, read_unit, write};
 use crate::keyword::Keyword;
-use crate::specifications::{dimension, equivalence, implicit, init, parameter, save};
+use crate::specifications::{common, dimension, equivalence, implicit, init, parameter, save};
 use f77_ast::stmt::Stmt;
 use f77_exprs::reader::Reader;
 use f77_exprs::unread::Unread;
@@ -46,6 +46,7 @@ pub fn behind(
         Keyword::Logical => logical(alloc, reader, depth),
         Keyword::Character => character(alloc, reader, depth),
         Keyword::Dimension => dimension(alloc, reader, depth),
+        Keyword::Common => common(alloc, reader, depth),
         Keyword::Equivalence => equivalence(alloc, reader, depth),
         Keyword::Parameter => parameter(alloc, reader, depth),
         Keyword::Implicit => implicit(alloc, reader, depth),

@@ -6,6 +6,7 @@ ghost use Rattle.f77_stmts.specs.Rows.{rule};
 ghost use Rattle.f77_stmts.specs.declared.keyword.Keyword.TheVariants as word;
 
 use crate::bounds::AnArray;
+use crate::common::common_groups;
 use crate::data::data_groups;
 use crate::leaves::expect_word;
 use crate::list::list;
@@ -22,6 +23,16 @@ pub fn dimension(alloc: Global, reader: &mut Reader<'_>, depth: usize) -> Result
 {
     let arrays = list::<AnArray>(alloc, reader, depth)?;
     Ok(Stmt::Dimension(arrays))
+}
+
+/// Common: `COMMON` and groups [`/` [name] `/`] list(decl), with [`,`] between; only the first may lack its slashes
+/// (ANSI X3.9-1978, section 8.3)
+pub fn common(alloc: Global, reader: &mut Reader<'_>, depth: usize) -> Result<Stmt, Unread>
+    ensures value { Reads (read depth (rule word.Common) reader.old) result reader.new }
+    ensures within { length reader.new ≤ length reader.old }
+{
+    let groups = common_groups(alloc, reader, depth)?;
+    Ok(Stmt::Common(groups))
 }
 
 /// Equivalence: `EQUIVALENCE` list of `(` ref `,` list(ref) `)`, without substrings (ANSI X3.9-1978, section 8.2)
