@@ -22,35 +22,35 @@ use Rattle.f77_exprs.proofs.Complete.{bind, eats_no, word_no, Ends, Starts, Bare
 -- ---- the first byte
 
 -- a byte of one kind is no byte of another
-other : (p : ℕ → Bool) (b c : ℕ) → p b ≡ false → p c ≡ true → (c == b) ≡ false
+pub other : (p : ℕ → Bool) (b c : ℕ) → p b ≡ false → p c ≡ true → (c == b) ≡ false
 other p b c bad good = by (c == b) refl
   where
     by : (t : Bool) → (c == b) ≡ t → (c == b) ≡ false
     by false e = e
     by true e = let k : c ≡ b = eqb-true c b e in let h : p b ≡ true = subst (λ x. p x ≡ true) k good in cc
 
-letter_first : (n : Text) → IsName n → (c : ℕ) × (t : Text) × (n ≡ c ∷ t) × (is_letter c ≡ true)
+pub letter_first : (n : Text) → IsName n → (c : ℕ) × (t : Text) × (n ≡ c ∷ t) × (is_letter c ≡ true)
 letter_first [] is = cc
 letter_first (c ∷ t) is = (c, t, refl, (and_parts (is_letter c) (nat_le (length t) 5) (and_parts (is_letter c && nat_le (length t) 5) (list_all is_alphanumeric t) is).0).0)
 
-digit_first : (s : Text) → IsDigits s → (c : ℕ) × (t : Text) × (s ≡ c ∷ t) × (is_ascii_digit c ≡ true)
+pub digit_first : (s : Text) → IsDigits s → (c : ℕ) × (t : Text) × (s ≡ c ∷ t) × (is_ascii_digit c ≡ true)
 digit_first [] d = absurd (omega arith)
 digit_first (c ∷ t) d = (c, t, refl, (and_parts (is_ascii_digit c) (list_all is_ascii_digit t) d.0).0)
 
 -- a word begins with its first byte
-unbegun : (b c : ℕ) (w t : Text) → (c == b) ≡ false → begins (b ∷ w) (c ∷ t) ≡ false
+pub unbegun : (b c : ℕ) (w t : Text) → (c == b) ≡ false → begins (b ∷ w) (c ∷ t) ≡ false
 unbegun b c w t e = rw e refl
 
 -- ---- digits
 
-digits_of : (s r : Text) → list_all is_ascii_digit s ≡ true → digits r ≡ 0 → digits (s ++ r) ≡ length s
+pub digits_of : (s r : Text) → list_all is_ascii_digit s ≡ true → digits r ≡ 0 → digits (s ++ r) ≡ length s
 digits_of [] r all none = none
 digits_of (c ∷ s) r all none =
     let parts = and_parts (is_ascii_digit c) (list_all is_ascii_digit s) all in
     let k : 1 + length s ≡ suc (length s) = omega arith in
     rw (parts.0, digits_of s r parts.1 none) k
 
-number_read : (s r : Text) → IsDigits s → value_of s < 2 ^ 63 → digits r ≡ 0 → number (s ++ r) ≡ Some (Some (expr.Int (pos (value_of s))), r)
+pub number_read : (s r : Text) → IsDigits s → value_of s < 2 ^ 63 → digits r ≡ 0 → number (s ++ r) ≡ Some (Some (expr.Int (pos (value_of s))), r)
 unfolding number
 number_read s r d fits none =
     let some : 0 < length s = d.1 in
@@ -60,7 +60,7 @@ number_read s r d fits none =
 -- ---- literals
 
 -- a literal that begins with a digit is a number
-literal_number : (c : ℕ) (t : Text) → is_ascii_digit c ≡ true → literal (c ∷ t) ≡ number (c ∷ t)
+pub literal_number : (c : ℕ) (t : Text) → is_ascii_digit c ≡ true → literal (c ∷ t) ≡ number (c ∷ t)
 unfolding literal
 literal_number c t d =
     eats_no 39 (c ∷ t) (λ quote. if quote then (constant >>= (λ bytes. pure (Some (expr.Chars bytes)))) else (eat_word (codes ".TRUE.") >>= (λ yes. if yes then pure (Some (expr.Truth true)) else (eat_word (codes ".FALSE.") >>= (λ untrue. if untrue then pure (Some (expr.Truth false)) else number))))) (other is_ascii_digit 39 c refl d)
@@ -68,7 +68,7 @@ literal_number c t d =
     ∙ word_no (codes ".FALSE.") (c ∷ t) (λ untrue. if untrue then pure (Some (expr.Truth false)) else number) (unbegun 46 c (codes "FALSE.") t (other is_ascii_digit 46 c refl d))
 
 -- what begins with a letter is none
-literal_none : (c : ℕ) (t : Text) → is_letter c ≡ true → literal (c ∷ t) ≡ Some (None, c ∷ t)
+pub literal_none : (c : ℕ) (t : Text) → is_letter c ≡ true → literal (c ∷ t) ≡ Some (None, c ∷ t)
 unfolding literal
 literal_none c t d =
     eats_no 39 (c ∷ t) (λ quote. if quote then (constant >>= (λ bytes. pure (Some (expr.Chars bytes)))) else (eat_word (codes ".TRUE.") >>= (λ yes. if yes then pure (Some (expr.Truth true)) else (eat_word (codes ".FALSE.") >>= (λ untrue. if untrue then pure (Some (expr.Truth false)) else number))))) (other is_letter 39 c refl d)
@@ -80,7 +80,7 @@ literal_none c t d =
     by false e = rw e refl
     by true e = absurd (grind (arith, e, d))
 
-characters_read : (bytes found r : Text) → sees 39 r ≡ false → characters found (doubled bytes ++ 39 ∷ r) ≡ Some (found ++ bytes, r)
+pub characters_read : (bytes found r : Text) → sees 39 r ≡ false → characters found (doubled bytes ++ 39 ∷ r) ≡ Some (found ++ bytes, r)
 characters_read [] found r e = closed 39 found r refl e ∙ ap (λ x. Some (x, r)) (sym (append-nil found))
 characters_read (b ∷ bytes) found r e = by (b == 39) refl (characters_read bytes (found ++ 39 ∷ []) r e) (characters_read bytes (found ++ b ∷ []) r e)
   where
@@ -101,31 +101,31 @@ characters_read (b ∷ bytes) found r e = by (b == 39) refl (characters_read byt
         ∙ one
         ∙ ap (λ x. Some (x, r)) (append_assoc found (b ∷ []) bytes)
 
-some_bytes : (bytes : Text) → 0 < length bytes → is_empty bytes ≡ false
+pub some_bytes : (bytes : Text) → 0 < length bytes → is_empty bytes ≡ false
 some_bytes [] e = absurd (omega arith)
 some_bytes (b ∷ bytes) e = refl
 
-constant_read : (bytes r : Text) → 0 < length bytes → sees 39 r ≡ false → constant (doubled bytes ++ 39 ∷ r) ≡ Some (bytes, r)
+pub constant_read : (bytes r : Text) → 0 < length bytes → sees 39 r ≡ false → constant (doubled bytes ++ 39 ∷ r) ≡ Some (bytes, r)
 unfolding constant
 constant_read bytes r some e = bind (characters [] (doubled bytes ++ 39 ∷ r)) (λ all. if is_empty all then refuse else pure all) bytes r (characters_read bytes [] r e) ∙ (rw (some_bytes bytes some) refl)
 
 -- ---- names
 
-alphanumerics_of : (s r : Text) → list_all is_alphanumeric s ≡ true → alphanumerics r ≡ 0 → alphanumerics (s ++ r) ≡ length s
+pub alphanumerics_of : (s r : Text) → list_all is_alphanumeric s ≡ true → alphanumerics r ≡ 0 → alphanumerics (s ++ r) ≡ length s
 alphanumerics_of [] r all none = none
 alphanumerics_of (c ∷ s) r all none =
     let parts = and_parts (is_alphanumeric c) (list_all is_alphanumeric s) all in
     let k : 1 + length s ≡ suc (length s) = omega arith in
     rw (parts.0, alphanumerics_of s r parts.1 none) k
 
-all_alphanumeric : (n : Text) → IsName n → list_all is_alphanumeric n ≡ true
+pub all_alphanumeric : (n : Text) → IsName n → list_all is_alphanumeric n ≡ true
 all_alphanumeric [] is = cc
 all_alphanumeric (c ∷ t) is =
     let outer = and_parts (is_letter c && nat_le (length t) 5) (list_all is_alphanumeric t) is in
     let l : is_letter c ≡ true = (and_parts (is_letter c) (nat_le (length t) 5) outer.0).0 in
     rw (l, outer.1) refl
 
-name_read : (n r : Text) → IsName n → alphanumerics r ≡ 0 → name (n ++ r) ≡ Some (n, r)
+pub name_read : (n r : Text) → IsName n → alphanumerics r ≡ 0 → name (n ++ r) ≡ Some (n, r)
 unfolding name
 name_read n r is none = rw (alphanumerics_of n r (all_alphanumeric n is) none, take_all n r, drop_all n r, is) refl
 
@@ -136,7 +136,7 @@ module _ (d : ℕ) where
   Inner = expr_within d
 
   -- what does not begin with a parenthesis is a literal or a reference
-  unopened : (i : Text) → sees 40 i ≡ false → primary Inner i ≡ and_then (literal i) (λ found. on_some found (λ a. pure a) (reference Inner))
+  pub unopened : (i : Text) → sees 40 i ≡ false → primary Inner i ≡ and_then (literal i) (λ found. on_some found (λ a. pure a) (reference Inner))
   unfolding primary
   unopened i e = eats_no 40 i (λ opens. if opens then (Inner >>= (λ a. expect 41 >> pure (expr.Paren a))) else (literal >>= (λ found. on_some found (λ a. pure a) (reference Inner)))) e
 

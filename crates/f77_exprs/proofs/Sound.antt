@@ -155,7 +155,7 @@ abbrev pub Offers : ℕ → Text → Option Expr → Text → Type 0
 Offers k i None r = i ≡ r
 Offers k i (Some a) r = Begins k i a r
 
-number_sound : (i : Text) → Holds (Offers 0 i) (number i)
+pub number_sound : (i : Text) → Holds (Offers 0 i) (number i)
 unfolding number
 number_sound i = by (digits i == 0) (is_number (take (digits i) i)) refl
   where
@@ -176,7 +176,7 @@ doubled_one new = refl
 doubled_other : (b : ℕ) (new : Text) → (b == 39) ≡ false → doubled (b ∷ new) ≡ b ∷ doubled new
 doubled_other b new e = rw e refl
 
-characters_sound : (found i : Text) → Holds (Closes found i) (characters found i)
+pub characters_sound : (found i : Text) → Holds (Closes found i) (characters found i)
 unfolding characters
 characters_sound found [] = tt
 characters_sound found (b ∷ []) = by (b == 39) refl
@@ -198,7 +198,7 @@ some_bytes : (bytes : Text) → is_empty bytes ≡ false → 0 < length bytes
 some_bytes [] e = cc
 some_bytes (b ∷ bytes) e = omega arith
 
-constant_sound : (i : Text) → Holds (λ bytes r. (0 < length bytes) × (i ≡ doubled bytes ++ 39 ∷ r)) (constant i)
+pub constant_sound : (i : Text) → Holds (λ bytes r. (0 < length bytes) × (i ≡ doubled bytes ++ 39 ∷ r)) (constant i)
 unfolding constant
 constant_sound i = holds_bind (characters [] i) _ (Closes [] i) (λ bytes r. (0 < length bytes) × (i ≡ doubled bytes ++ 39 ∷ r)) (characters_sound [] i) (λ bytes r h. by bytes r (is_empty bytes) refl (subst (λ x. i ≡ doubled x ++ 39 ∷ r) (sym h.1) h.2))
   where
@@ -348,13 +348,13 @@ module _ (inner : Parser Expr) (sound : Sound inner whole) where
       (holds_bind (inner i) _ (Begins whole i) (Refers n (40 ∷ []) i) (sound i) (λ first j p.
       shifts n (40 ∷ []) (40 ∷ p.0) i j (with_first inner n first j) (ap (λ x. 40 ∷ x) p.1) (with_first_sound n first p.0 j is p.2))))
 
-  reference_sound : Sound (reading.reference inner) 0
+  pub reference_sound : Sound (reading.reference inner) 0
   unfolding reading.reference
   reference_sound i = holds_bind (name i) _ (λ n r. (i ≡ n ++ r) × IsName n) (Begins 0 i) (name_sound i) (λ n j h. eats 40 j (λ opens. if opens then opened inner n else pure (reference_of n None None)) (Begins 0 i)
       (λ k c. holds_weak (opened inner n k) (Refers n (40 ∷ []) k) (Begins 0 i) (opened_sound n k h.1) (λ a r w. (n ++ w.0, h.0 ∙ ap (λ x. n ++ x) (c ∙ w.1) ∙ sym (append_assoc n w.0 r), w.2)))
       (n, h.0, subst (Spells 0 (reference_of n None None)) (append-nil n) (spelled.reference n h.1 no_list no_part)))
 
-  primary_sound : Sound (primary inner) 0
+  pub primary_sound : Sound (primary inner) 0
   unfolding primary
   primary_sound i = eats 40 i (λ opens. if opens then (inner >>= (λ a. expect 41 >> pure (expr.Paren a))) else (literal >>= (λ found. on_some found (λ a. pure a) (reading.reference inner)))) (Begins 0 i)
       (λ k c. holds_bind (inner k) _ (Begins whole k) (Begins 0 i) (sound k) (λ a l b. holds_bind (expect 41 l) _ (λ u m. l ≡ 41 ∷ m) (Begins 0 i) (expects 41 l) (λ u m d.

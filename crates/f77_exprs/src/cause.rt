@@ -109,7 +109,7 @@ fn is_out_of_range(before: u8, text: &[u8]) -> bool
 }
 
 /// Whether a name of more than six letters and digits comes next, behind a byte.
-fn is_long_name(before: u8, text: &[u8]) -> bool
+pub fn is_long_name(before: u8, text: &[u8]) -> bool
     ensures { result ≡ spec.is_long_name before text.now }
 {
     !is_alphanumeric(before) && sees_letter(text) && alphanumerics(text) > 6

@@ -177,8 +177,12 @@ fn opened(alloc: Global, reader: &mut Reader<'_>, depth: usize, name: Name) -> R
 
 /// ref: name; name with `(` list of none or more expr `)`; either followed by `(` [expr] `:` [expr] `)`
 /// (ANSI X3.9-1978, sections 2.2, 5.3, 5.7.1 and 15.2).
+///
+/// # Errors
+///
+/// `Unspelled` exactly where the text doesn't begin with a ref, as the definition reads it. `NoMemory` where memory failed.
 #[cycle(grammar)]
-fn reference(alloc: Global, reader: &mut Reader<'_>, depth: usize) -> Result<Expr, Unread>
+pub fn reference(alloc: Global, reader: &mut Reader<'_>, depth: usize) -> Result<Expr, Unread>
     ensures value { Reads (spec.reference (spec.expr_within depth) reader.old) result reader.new }
     ensures within { length reader.new ≤ length reader.old }
 {

@@ -7,7 +7,7 @@ pub mod cause;
 pub mod expr;
 pub mod grammar;
 pub mod laws;
-mod operand;
+pub mod operand;
 pub mod operators;
 pub mod outside;
 pub mod reader;

@@ -27,7 +27,7 @@ fn characters(alloc: Global, reader: &mut Reader<'_>) -> Result<Bytes, Unread>
 /// primary: a character constant of at least one character, after its first apostrophe
 /// (ANSI X3.9-1978, section 4.8.1).
 #[tactic(auto, unfolding(crate::specs::Reading::constant))]
-fn constant(alloc: Global, reader: &mut Reader<'_>) -> Result<Bytes, Unread>
+pub fn constant(alloc: Global, reader: &mut Reader<'_>) -> Result<Bytes, Unread>
     ensures value { Reads (spec.constant reader.old) result reader.new }
     ensures within { length reader.new ≤ length reader.old }
 {

@@ -1,5 +1,5 @@
 //! What is left of a text while an expression is read from it, and the smallest parts that are taken from it.
-ghost use Rattle.std.specs.Prelude.{◌≡◌, ◌≤◌, ◌<◌, ◌^◌, [], ◌∷◌, true, length, drop, pos, MatchOption, OnSome, SomeIff, Some};
+ghost use Rattle.std.specs.Prelude.{◌≡◌, ◌≤◌, ◌<◌, ◌^◌, [], ◌∷◌, true, length, take, drop, pos, MatchOption, OnSome, SomeIff, Some};
 ghost use Rattle.std.specs.List.{list_all};
 ghost use Rattle.std.specs.Char.{is_ascii_digit};
 ghost use Rattle.hyb_base.specs.Decimal.{IsDigits, value_of};
@@ -64,6 +64,13 @@ impl<'a> Reader<'a> {
         ensures { result ≡ spec.is_empty self.now }
     {
         self.rest.is_empty()
+    }
+
+    /// What is left.
+    pub fn rest(&self) -> &'a [u8]
+        ensures { result.now ≡ self.now }
+    {
+        self.rest
     }
 
     /// Takes the byte that comes next.
@@ -188,6 +195,17 @@ impl<'a> Reader<'a> {
             }
             None => Err(Unread::Unspelled),
         }
+    }
+
+    /// Takes all digits that come next.
+    pub fn take_digits(&mut self) -> &'a [u8]
+        ensures digits { result.now ≡ take (spec.digits self.old) self.old }
+        ensures after { self.new ≡ drop (spec.digits self.old) self.old }
+        ensures within { length self.new ≤ length self.old }
+    {
+        let (text, rest) = self.rest.split_at(digits(self.rest));
+        self.rest = rest;
+        text
     }
 
     /// Takes a name: one to six letters and digits, the first of which is a letter (ANSI X3.9-1978, section 2.2).

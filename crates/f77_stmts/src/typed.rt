@@ -1,0 +1,14 @@
+//! Statements that begin with a type.
+
+use f77_ast::name::Name;
+use f77_ast::specification::TypedDeclarator;
+use sqlite_items::Items;
+
+/// What stands behind a type.
+#[derive(Drop)]
+pub enum Typed {
+    /// `FUNCTION` name `(` [list(name)] `)`.
+    Function(Name, Items<Name>),
+    /// list(decl), or list(decl [`*` len]).
+    Entities(Items<TypedDeclarator>),
+}
