@@ -553,8 +553,7 @@ complete (list {A = X} f) k d v s r lt h n =
     by : {all : List X} {u : Text} → SpellsList (Spells f) all u → length u < d → ((a : X) (t u : Text) → length t < d → Spells f a t → Next (next f) u → read d f (t ++ u) ≡ Some (a, u)) → next f 44 ≡ true → Next (λ c. next f c && not (c == 44)) r
         → ReadsList (read d f) all (u ++ r) r
     by (last {a = a} {s = t} x) few rule comma n =
-        let l = length-append t r in
-        (
+        let l = length-append t r in (
           a,
           r,
           rule a t r few x (next_weak (λ c. next f c && not (c == 44)) (next f) (λ c w. (and_parts (next f c) _ w).0) r n),

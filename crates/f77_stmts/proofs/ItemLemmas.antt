@@ -48,8 +48,7 @@ control_text c s h =
     let q = p.4 in
     let v = q.4 in
     let x = p.3.0 in
-    let y = q.3.0 in
-    (
+    let y = q.3.0 in (
       x,
       y,
       v.0,
