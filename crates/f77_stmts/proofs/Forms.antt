@@ -1,13 +1,13 @@
 -- What is spelled by a form is read, where a test on the form holds, and what is read is spelled.
-use Rattle.std.proofs.Common.{◌≡◌, ◌≢◌, ◌⊎◌, inl, inr, ℕ, zero, suc, ◌+◌, ◌≤◌, ◌<◌, Bool, true, false, not, ◌&&◌, ◌||◌, ◌==◌, nat_le, nat_lt, if◌then◌else◌, List, [], ◌∷◌, ◌++◌, length, take, drop, Option, Some, None, is_none, refl, sym, ap, ◌∙◌, subst, arith, one-add, length-append}
-use Rattle.std.proofs.lemmas.Bool.{and_parts, and_from, eqb-true, ltb-true}
+use Rattle.std.proofs.Common.{◌≡◌, inl, inr, ℕ, zero, suc, ◌+◌, ◌≤◌, ◌<◌, Bool, true, false, not, ◌&&◌, ◌||◌, ◌==◌, nat_le, nat_lt, if◌then◌else◌, List, [], ◌∷◌, ◌++◌, length, drop, Some, None, is_none, refl, sym, ap, ◌∙◌, subst, arith, length-append}
+use Rattle.std.proofs.lemmas.Bool.{and_parts, ltb-true}
 use Rattle.std.proofs.lemmas.List.{append_assoc, append-nil}
 use Rattle.std.specs.List.{list_all}
 use Rattle.f77_ast.specs.Name.{IsName, is_letter, is_alphanumeric}
 use Rattle.f77_ast.specs.declared.expr.Ref.{Ref, out-Ref}
 use Rattle.f77_exprs.specs.Operators.{Text, begins}
-use Rattle.f77_exprs.specs.Reading.{Outcome, Parser, and_then, ◌>>=◌, ◌>>◌, pure, refuse, is_empty, sees, eat, eat_word, after_word, alphanumerics, reference, expr_within, name}
-use Rattle.f77_exprs.proofs.Complete.{bind, eats_no}
+use Rattle.f77_exprs.specs.Reading.{Outcome, Parser, and_then, ◌>>=◌, ◌>>◌, pure, refuse, is_empty, sees, eat_word, after_word, alphanumerics, reference, expr_within, name}
+use Rattle.f77_exprs.proofs.Complete.{bind}
 use Rattle.f77_exprs.proofs.Primaries.{letter_first, alphanumerics_of, all_alphanumeric}
 use Rattle.f77_exprs.proofs.Sound.{Holds, holds_bind, holds_weak, eats, eats_word, within_sound, name_sound}
 use Rattle.f77_exprs.proofs.Words.{drop_all, begins_splits}
@@ -553,8 +553,7 @@ complete (list {A = X} f) k d v s r lt h n =
     by : {all : List X} {u : Text} → SpellsList (Spells f) all u → length u < d → ((a : X) (t u : Text) → length t < d → Spells f a t → Next (next f) u → read d f (t ++ u) ≡ Some (a, u)) → next f 44 ≡ true → Next (λ c. next f c && not (c == 44)) r
         → ReadsList (read d f) all (u ++ r) r
     by (last {a = a} {s = t} x) few rule comma n =
-        let l = length-append t r in
-        (
+        let l = length-append t r in (
           a,
           r,
           rule a t r few x (next_weak (λ c. next f c && not (c == 44)) (next f) (λ c w. (and_parts (next f c) _ w).0) r n),

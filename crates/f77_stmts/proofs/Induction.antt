@@ -1,5 +1,5 @@
 -- What is spelled is read, what is read is spelled, and no text spells two statements.
-use Rattle.std.proofs.Common.{◌≡◌, ◌⊎◌, inl, inr, ℕ, zero, suc, ◌+◌, ◌≤◌, ◌<◌, Bool, true, false, not, ◌&&◌, ◌||◌, ◌==◌, if◌then◌else◌, List, [], ◌∷◌, ◌++◌, length, drop, Option, Some, None, Ok, Err, refl, sym, ap, ◌∙◌, subst, arith, length-append}
+use Rattle.std.proofs.Common.{◌≡◌, ℕ, suc, ◌≤◌, ◌<◌, Bool, true, false, ◌||◌, if◌then◌else◌, [], ◌∷◌, ◌++◌, length, drop, Option, Some, None, Ok, Err, refl, sym, ap, ◌∙◌, subst, arith, length-append}
 use Rattle.std.proofs.lemmas.Bool.{and_parts}
 use Rattle.std.proofs.lemmas.List.{append_assoc, append-nil}
 use Rattle.std.specs.Prelude.{codes, option_map}
@@ -20,7 +20,7 @@ use Rattle.f77_stmts.specs.declared.keyword.Keyword.{Keyword}
 use Rattle.f77_stmts.specs.declared.keyword.Keyword.TheVariants as word
 use Rattle.f77_stmts.specs.Answer.{Answers}
 use Rattle.f77_stmts.specs.Cause.{code_of}
-use Rattle.f77_stmts.specs.Form.{Form, Spells, passes, read}
+use Rattle.f77_stmts.specs.Form.{Spells, passes, read}
 use Rattle.f77_stmts.specs.Rows.{spelling, keywords, is_action, is_here, keyword_at, assignment, three_labels, jumps, rule}
 use Rattle.f77_stmts.specs.Seek.{seek}
 use Rattle.f77_stmts.specs.Spelling.{SpellsAction, assign, action, arithmetic_if, SpellsStmt, simple, row, block_if, logical_if}

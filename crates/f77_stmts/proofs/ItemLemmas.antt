@@ -1,5 +1,5 @@
 -- Items: what is spelled is read, and what is read is spelled.
-use Rattle.std.proofs.Common.{◌≡◌, ◌⊎◌, inl, inr, ℕ, zero, suc, ◌+◌, ◌-◌, ◌≤◌, ◌<◌, Bool, true, false, not, ◌&&◌, ◌||◌, ◌==◌, nat_le, if◌then◌else◌, List, [], ◌∷◌, ◌++◌, length, drop, Option, Some, None, refl, sym, ap, ◌∙◌, subst, arith, length-append}
+use Rattle.std.proofs.Common.{◌≡◌, ◌⊎◌, inl, inr, ℕ, zero, suc, ◌+◌, ◌≤◌, ◌<◌, Bool, true, false, not, ◌||◌, ◌==◌, if◌then◌else◌, List, [], ◌∷◌, ◌++◌, length, drop, Option, Some, refl, sym, ap, ◌∙◌, subst, arith, length-append}
 use Rattle.std.proofs.lemmas.Bool.{and_parts, and_from, eqb-true}
 use Rattle.std.proofs.lemmas.List.{append_assoc, append-nil}
 use Rattle.std.specs.Prelude.{codes}
@@ -19,13 +19,13 @@ use Rattle.f77_exprs.proofs.Complete.{bind}
 use Rattle.f77_exprs.proofs.Primaries.{other, letter_first, digit_first, alphanumerics_of, all_alphanumeric}
 use Rattle.f77_exprs.proofs.Sound.{Holds, holds_bind, holds_weak}
 use Rattle.f77_exprs.proofs.Words.{drop_all}
-use Rattle.f77_stmts.specs.Form.{Form, Spells, expect_word, read, an_expr, a_ref}
+use Rattle.f77_stmts.specs.Form.{Spells, expect_word, read}
 use Rattle.f77_stmts.specs.Parts.{control, step}
 use Rattle.f77_stmts.specs.Items.{plain, SpellsItem, plain_item, implied_do, SpellsItems, last_item, more_items, is_control, is_implied, goes_on, items_behind, items_of, implied, item_of, items_within}
 use Rattle.f77_stmts.specs.Seek.{seek}
-use Rattle.f77_stmts.proofs.LeafLemmas.{Next, behind_expr, behind_ref}
-use Rattle.f77_stmts.proofs.Forms.{is_clear, next, nullable, filled, complete, sound, Front, word_read, word_sound}
-use Rattle.f77_stmts.proofs.SeekLemmas.{sought, closed, comma_inside, passes, passes_name, dull_skip, dull_names, is_dull, elsewhere}
+use Rattle.f77_stmts.proofs.LeafLemmas.{Next}
+use Rattle.f77_stmts.proofs.Forms.{is_clear, next, nullable, filled, complete, sound, Front, word_sound}
+use Rattle.f77_stmts.proofs.SeekLemmas.{sought, closed, comma_inside, passes, passes_name, dull_skip, dull_names, elsewhere}
 use Rattle.f77_stmts.proofs.ItemTurns.{item_implied, item_plain, no_more, one_more}
 
 -- ---- the text of a control
@@ -48,8 +48,7 @@ control_text c s h =
     let q = p.4 in
     let v = q.4 in
     let x = p.3.0 in
-    let y = q.3.0 in
-    (
+    let y = q.3.0 in (
       x,
       y,
       v.0,

@@ -1,10 +1,10 @@
 -- The turns of the loop that reads items, and what is read of one.
-use Rattle.std.proofs.Common.{◌≡◌, ℕ, zero, suc, ◌+◌, ◌-◌, ◌≤◌, ◌<◌, Bool, not, ◌&&◌, [], ◌∷◌, ◌++◌, List, true, false, length, drop, if◌then◌else◌, Some, None, refl, sym, ap, ◌∙◌, arith}
+use Rattle.std.proofs.Common.{◌≡◌, ℕ, zero, suc, ◌-◌, ◌≤◌, ◌<◌, Bool, not, [], ◌∷◌, ◌++◌, List, true, false, length, drop, Some, None, refl, sym, ap, ◌∙◌, arith}
 use Rattle.std.proofs.lemmas.Bool.{and_parts}
 use Rattle.f77_ast.specs.declared.stmt.Item.{Item}
 use Rattle.f77_ast.specs.declared.stmt.Item.TheVariants as item
 use Rattle.f77_exprs.specs.Operators.{Text}
-use Rattle.f77_exprs.specs.Reading.{Outcome, Parser, and_then, ◌>>=◌, pure, sees, after}
+use Rattle.f77_exprs.specs.Reading.{Outcome, Parser, and_then, pure, sees, after}
 use Rattle.f77_exprs.proofs.Complete.{bind}
 use Rattle.f77_exprs.proofs.Turns.{Turns}
 use Rattle.f77_stmts.specs.Form.{read}

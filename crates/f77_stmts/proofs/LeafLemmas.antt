@@ -1,9 +1,9 @@
 -- The leaves of forms: what they begin with, what may follow them, and that what is spelled is read.
-use Rattle.std.proofs.Common.{◌≡◌, ◌≢◌, ℕ, zero, suc, ◌+◌, ◌-◌, ◌≤◌, ◌<◌, ◌^◌, ℤ, pos, ◌≤ℤ◌, Bool, true, false, not, ◌&&◌, ◌||◌, ◌==◌, nat_le, nat_lt, if◌then◌else◌, List, [], ◌∷◌, ◌++◌, length, take, drop, Option, Some, None, refl, sym, ap, ◌∙◌, subst, arith, one-add, length-append}
+use Rattle.std.proofs.Common.{◌≡◌, ◌≢◌, ℕ, zero, suc, ◌+◌, ◌-◌, ◌≤◌, ◌<◌, ◌^◌, ℤ, pos, ◌≤ℤ◌, Bool, true, false, not, ◌&&◌, ◌||◌, ◌==◌, nat_le, nat_lt, if◌then◌else◌, List, [], ◌∷◌, ◌++◌, length, take, drop, Option, Some, None, refl, sym, ap, ◌∙◌, subst, arith, length-append}
 use Rattle.std.proofs.lemmas.Bool.{and_parts, and_from, eqb-true, ltb-true}
 use Rattle.std.proofs.lemmas.Grind.{common_steps}
 use Rattle.std.proofs.lemmas.Bool.Decides.{nat_tests}
-use Rattle.std.proofs.lemmas.List.{append_assoc, append-nil, take-append-drop}
+use Rattle.std.proofs.lemmas.List.{append_assoc, take-append-drop}
 use Rattle.std.specs.Prelude.{codes, IsTrue, SomeIff}
 use Rattle.std.specs.Char.{is_ascii_digit}
 use Rattle.std.specs.List.{list_all}
@@ -16,16 +16,16 @@ use Rattle.f77_ast.specs.declared.expr.Part.{Part}
 use Rattle.f77_ast.specs.declared.expr.Expr.TheVariants as expr
 use Rattle.f77_ast.specs.declared.expr.Ref.{Ref}
 use Rattle.f77_exprs.specs.declared.operators.Prefix.TheVariants as prefix
-use Rattle.f77_exprs.specs.Operators.{Text, spelling, prefix_spelling}
+use Rattle.f77_exprs.specs.Operators.{Text, spelling}
 use Rattle.f77_exprs.specs.Spelling.{doubled, whole, Spells, truth, falsehood, parentheses, lower, joined}
 use Rattle.f77_exprs.specs.Spelling as spelled
-use Rattle.f77_exprs.specs.Reading.{Outcome, Parser, and_then, ◌>>=◌, pure, refuse, on_some, sees, digits, alphanumerics, number, constant, literal, name, reference, primary, expr_within}
+use Rattle.f77_exprs.specs.Reading.{Outcome, and_then, pure, on_some, sees, digits, alphanumerics, number, literal, name, reference, primary, expr_within}
 use Rattle.f77_exprs.proofs.Complete.{bind, Free, Ends, closing, comma, colon, ending}
 use Rattle.f77_exprs.proofs.Induction.{complete, expr_is_read}
 use Rattle.f77_exprs.proofs.Primaries.{other, letter_first, digit_first, digits_of, literal_none, constant_read, name_read, number_read, unopened}
 use Rattle.f77_exprs.proofs.Words.{drop_all, take_all}
-use Rattle.f77_stmts.specs.Form.{Form, digits_by, small, is_label, is_short, label, short, letter, ref_of, ref_at, number_of, number_at, int, constant_of, constant_at}
-use Rattle.f77_exprs.proofs.Sound.{Holds, Begins, Offers, holds_bind, holds_weak, within_sound, reference_sound, number_sound, literal_sound}
+use Rattle.f77_stmts.specs.Form.{digits_by, small, is_label, is_short, label, short, letter, ref_of, ref_at, number_of, number_at, int, constant_of, constant_at}
+use Rattle.f77_exprs.proofs.Sound.{Holds, Begins, Offers, holds_bind, within_sound, reference_sound, number_sound, literal_sound}
 use Rattle.f77_exprs.proofs.Numbers.{digits_all, number_none, number_there, number_missing}
 
 -- a text ends here, or goes on with a byte that passes

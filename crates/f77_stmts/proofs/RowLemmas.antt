@@ -1,24 +1,22 @@
 -- Rows: what is spelled is read, what is read is spelled, and none is an assignment.
-use Rattle.std.proofs.Common.{◌≡◌, ◌⊎◌, inl, inr, ℕ, zero, suc, ◌+◌, ◌≤◌, ◌<◌, Bool, true, false, not, ◌&&◌, ◌||◌, ◌==◌, if◌then◌else◌, List, [], ◌∷◌, ◌++◌, length, drop, Option, Some, None, refl, sym, ap, ◌∙◌, subst, arith, length-append}
+use Rattle.std.proofs.Common.{◌≡◌, inl, inr, ℕ, ◌<◌, Bool, true, false, if◌then◌else◌, List, [], ◌∷◌, ◌++◌, length, Some, refl, sym, ap, ◌∙◌, arith}
 use Rattle.std.proofs.lemmas.List.{append_assoc, append-nil}
 use Rattle.std.specs.Prelude.{codes}
 use Rattle.std.specs.Char.{is_ascii_digit}
-use Rattle.f77_ast.specs.Name.{is_letter}
 use Rattle.f77_ast.specs.declared.stmt.Item.{Item}
 use Rattle.f77_ast.specs.declared.stmt.Stmt.{Stmt}
 use Rattle.f77_ast.specs.declared.stmt.Stmt.TheVariants as stmt
-use Rattle.f77_exprs.specs.Operators.{Text, begins}
-use Rattle.f77_exprs.specs.Reading.{Outcome, and_then, ◌>>=◌, pure}
-use Rattle.f77_exprs.proofs.Complete.{bind}
+use Rattle.f77_exprs.specs.Operators.{Text}
+use Rattle.f77_exprs.specs.Reading.{Outcome, and_then, pure}
 use Rattle.f77_exprs.proofs.Primaries.{other, digit_first}
 use Rattle.f77_exprs.proofs.Sound.{Holds, holds_bind, holds_weak}
 use Rattle.f77_stmts.specs.declared.keyword.Keyword.{Keyword}
 use Rattle.f77_stmts.specs.declared.keyword.Keyword.TheVariants as word
-use Rattle.f77_stmts.specs.Form.{Form, after, past, Spells, passes, expect_word, read}
+use Rattle.f77_stmts.specs.Form.{after, past, Spells, passes, expect_word, read}
 use Rattle.f77_stmts.specs.Parts.{is_any, control}
 use Rattle.f77_stmts.specs.Items.{SpellsItems, items_within}
 use Rattle.f77_stmts.specs.Rows.{spelling, keyword_at, assignment, printed, written, rule}
-use Rattle.f77_stmts.specs.Statement.{whole, is_if}
+use Rattle.f77_stmts.specs.Statement.{is_if}
 use Rattle.f77_stmts.specs.Seek.{seek}
 use Rattle.f77_stmts.proofs.Clear.{is_plain, rule_is_clear}
 use Rattle.f77_stmts.proofs.Forms.{complete, sound, Front, word_sound}

@@ -1,5 +1,5 @@
 -- The turns of the loops that read lists.
-use Rattle.std.proofs.Common.{◌≡◌, ℕ, zero, suc, ◌+◌, ◌-◌, ◌≤◌, ◌<◌, Bool, [], ◌∷◌, ◌++◌, List, true, false, length, drop, Result, if◌then◌else◌, Some, None, refl, sym, ap, subst, ◌∙◌, arith}
+use Rattle.std.proofs.Common.{◌≡◌, ℕ, zero, suc, ◌+◌, ◌-◌, ◌≤◌, ◌<◌, [], ◌∷◌, ◌++◌, List, true, false, length, drop, Result, if◌then◌else◌, Some, None, refl, sym, ap, subst, ◌∙◌, arith}
 use Rattle.f77_exprs.specs.declared.unread.Unread.{Unread}
 use Rattle.f77_exprs.specs.Operators.{Text, begins}
 use Rattle.f77_exprs.specs.Read.{Reads}

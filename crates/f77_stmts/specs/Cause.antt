@@ -1,5 +1,5 @@
 -- Why a text spells no statement.
-use Rattle.std.specs.Prelude.{ℕ, Bool, true, false, ◌&&◌, ◌||◌, ◌==◌, if◌then◌else◌, List, [], ◌∷◌, drop, codes}
+use Rattle.std.specs.Prelude.{ℕ, Bool, false, ◌&&◌, ◌||◌, ◌==◌, if◌then◌else◌, List, [], ◌∷◌, drop, codes}
 use Rattle.f77_exprs.specs.declared.cause.Cause.{Cause}
 use Rattle.f77_exprs.specs.declared.cause.Cause.TheVariants.{RealLiteral, LiteralRange, NameTooLong, NoExpression}
 use Rattle.f77_exprs.specs.Operators.{Text, begins}

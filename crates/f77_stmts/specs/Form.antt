@@ -1,6 +1,6 @@
 -- Forms: productions of the grammar as data. A form says which trees its texts have (`Spells`), and how a tree is read
 -- from the front of a text (`read`).
-use Rattle.std.specs.Prelude.{◌≡◌, ◌⊎◌, ℕ, zero, suc, ◌==◌, ◌<◌, ◌≤◌, ℤ, pos, negsuc, Bool, true, false, ◌&&◌, nat_lt, nat_le, if◌then◌else◌, List, [], ◌∷◌, ◌++◌, length, take, drop, Option, Some, None, is_none, IsTrue}
+use Rattle.std.specs.Prelude.{◌≡◌, ◌⊎◌, ℕ, zero, suc, ℤ, pos, negsuc, Bool, false, ◌&&◌, nat_lt, nat_le, if◌then◌else◌, List, [], ◌∷◌, ◌++◌, length, take, drop, Option, Some, None, is_none, IsTrue}
 use Rattle.hyb_base.specs.Decimal.{IsDigits, value_of}
 use Rattle.f77_ast.specs.Name.{IsName, is_letter}
 use Rattle.f77_ast.specs.declared.expr.Expr.{Expr, out-Expr}

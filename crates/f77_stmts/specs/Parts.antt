@@ -1,5 +1,5 @@
 -- The parts that several statements share, as productions.
-use Rattle.std.specs.Prelude.{ℕ, ℤ, neg_ℤ, Bool, true, false, ◌||◌, ◌==◌, List, [], ◌∷◌, ◌++◌, length, Option, Some, None, codes}
+use Rattle.std.specs.Prelude.{ℕ, neg_ℤ, Bool, true, false, ◌==◌, List, [], ◌∷◌, ◌++◌, length, Option, Some, None, codes}
 use Rattle.std.specs.Char.{is_ascii_digit}
 use Rattle.f77_ast.specs.Name.{is_letter}
 use Rattle.f77_ast.specs.declared.expr.Expr.{Expr}
@@ -31,7 +31,7 @@ use Rattle.f77_exprs.specs.Operators.{Text}
 use Rattle.f77_exprs.specs.Reading.{Parser, and_then, pure}
 use Rattle.f77_stmts.specs.declared.common.CommonStep.{CommonStep}
 use Rattle.f77_stmts.specs.declared.common.CommonStep.TheVariants as step_of
-use Rattle.f77_stmts.specs.Form.{Form, nothing, after, before, past, pair, made, either, by_first, list, many, maybe, an_expr, a_whole_ref, read, many_of, a_name, a_label, some_digits, a_number, a_constant, a_letter}
+use Rattle.f77_stmts.specs.Form.{Form, nothing, after, before, past, pair, made, either, by_first, list, many, maybe, an_expr, a_whole_ref, read, many_of, a_name, some_digits, a_number, a_constant, a_letter}
 
 -- any byte
 abbrev pub is_any : ℕ → Bool

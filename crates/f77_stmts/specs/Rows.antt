@@ -1,21 +1,17 @@
 -- The rows of the table of statements: what stands behind the first word of each (ANSI X3.9-1978, sections 8 to 15).
 use Rattle.std.specs.Prelude.{ℕ, Bool, true, false, List, [], ◌∷◌, Option, Some, None, codes}
 use Rattle.f77_ast.specs.declared.expr.Expr.{Expr}
-use Rattle.f77_ast.specs.declared.expr.Ref.{Ref}
-use Rattle.f77_ast.specs.declared.specification.Length.{Length}
 use Rattle.f77_ast.specs.declared.specification.TypeSpec.{TypeSpec}
 use Rattle.f77_ast.specs.declared.specification.TypeSpec.TheVariants as typ
-use Rattle.f77_ast.specs.declared.specification.TypedDeclarator.{TypedDeclarator}
 use Rattle.f77_ast.specs.declared.stmt.Stmt.{Stmt}
 use Rattle.f77_ast.specs.declared.stmt.Stmt.TheVariants as stmt
 use Rattle.f77_ast.specs.declared.stmt.Item.{Item}
-use Rattle.f77_ast.specs.declared.stmt.LoopControl.{LoopControl}
 use Rattle.f77_exprs.specs.Operators.{Text, begins, first_passing}
 use Rattle.f77_stmts.specs.declared.keyword.Keyword.{Keyword}
 use Rattle.f77_stmts.specs.declared.keyword.Keyword.TheVariants as word
 use Rattle.f77_stmts.specs.declared.typed.Typed.{Typed}
 use Rattle.f77_stmts.specs.declared.typed.Typed.TheVariants as typed
-use Rattle.f77_stmts.specs.Form.{Form, nothing, after, before, past, pair, made, either, by_first, list, many, an_expr, a_ref, a_name, a_label}
+use Rattle.f77_stmts.specs.Form.{Form, nothing, after, before, past, pair, made, either, by_first, list, an_expr, a_ref, a_name, a_label}
 use Rattle.f77_stmts.specs.Items.{some_items}
 use Rattle.f77_stmts.specs.Parts.{is_any, control, dummies, dummy_list, argument_list, stop_codes, len, entity, text_entity, array, common_groups, group, named, implicit_rule, save_entries, data_groups}
 

@@ -1,6 +1,6 @@
 -- Which texts a statement has (ANSI X3.9-1978, sections 8 to 15). A text has no blanks and no lower-case letters outside
 -- character constants, and no word is reserved.
-use Rattle.std.specs.Prelude.{ℕ, Bool, true, false, List, [], ◌∷◌, ◌++◌, codes, IsTrue}
+use Rattle.std.specs.Prelude.{ℕ, ◌∷◌, ◌++◌, codes, IsTrue}
 use Rattle.f77_ast.specs.declared.expr.Expr.{Expr}
 use Rattle.f77_ast.specs.declared.stmt.Stmt.{Stmt}
 use Rattle.f77_ast.specs.declared.stmt.Stmt.TheVariants as stmt

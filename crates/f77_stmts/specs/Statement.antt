@@ -1,11 +1,11 @@
 -- How a statement is read from its text: as an assignment, or by its first word.
-use Rattle.std.specs.Prelude.{ℕ, suc, Bool, true, false, not, ◌&&◌, ◌||◌, if◌then◌else◌, [], length, drop, Option, Some, None, option_map, codes}
+use Rattle.std.specs.Prelude.{ℕ, suc, Bool, true, false, ◌&&◌, ◌||◌, if◌then◌else◌, [], length, drop, Option, Some, None, option_map, codes}
 use Rattle.std.specs.Char.{is_ascii_digit}
 use Rattle.f77_ast.specs.declared.expr.Expr.{Expr}
 use Rattle.f77_ast.specs.declared.stmt.Stmt.{Stmt}
 use Rattle.f77_ast.specs.declared.stmt.Stmt.TheVariants as stmt
 use Rattle.f77_exprs.specs.Operators.{Text, begins}
-use Rattle.f77_exprs.specs.Reading.{Outcome, Parser, is_empty}
+use Rattle.f77_exprs.specs.Reading.{Outcome, is_empty}
 use Rattle.f77_stmts.specs.declared.keyword.Keyword.{Keyword}
 use Rattle.f77_stmts.specs.Form.{Form, before, an_expr, read, passes}
 use Rattle.f77_stmts.specs.Rows.{spelling, is_action, keyword_at, assignment, three_labels, jumps, rule}

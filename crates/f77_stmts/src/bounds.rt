@@ -28,7 +28,11 @@ fn upper(alloc: Global, reader: &mut Reader<'_>, depth: usize) -> Result<Option<
 }
 
 /// [`:` and `*`, or expr]
-fn upper_option(alloc: Global, reader: &mut Reader<'_>, depth: usize) -> Result<Option<Option<Expr>>, Unread>
+fn upper_option(
+    alloc: Global,
+    reader: &mut Reader<'_>,
+    depth: usize,
+) -> Result<Option<Option<Expr>>, Unread>
     ensures value { Reads (read depth parts.upper_option reader.old) result reader.new }
     ensures within { length reader.new ≤ length reader.old }
 {
@@ -140,7 +144,11 @@ fn entity(alloc: Global, reader: &mut Reader<'_>, depth: usize) -> Result<TypedD
 }
 
 /// decl [`*` len] (ANSI X3.9-1978, section 8.4.2)
-fn text_entity(alloc: Global, reader: &mut Reader<'_>, depth: usize) -> Result<TypedDeclarator, Unread>
+fn text_entity(
+    alloc: Global,
+    reader: &mut Reader<'_>,
+    depth: usize,
+) -> Result<TypedDeclarator, Unread>
     ensures value { Reads (read depth parts.text_entity reader.old) result reader.new }
     ensures within { length reader.new ≤ length reader.old }
 {
@@ -170,7 +178,11 @@ impl Part for AnEntity {
 
     ghost reading = { λ depth. read depth parts.entity };
 
-    fn read(alloc: Global, reader: &mut Reader<'_>, depth: usize) -> Result<TypedDeclarator, Unread> {
+    fn read(
+        alloc: Global,
+        reader: &mut Reader<'_>,
+        depth: usize,
+    ) -> Result<TypedDeclarator, Unread> {
         entity(alloc, reader, depth)
     }
 }
@@ -183,7 +195,11 @@ impl Part for ATextEntity {
 
     ghost reading = { λ depth. read depth parts.text_entity };
 
-    fn read(alloc: Global, reader: &mut Reader<'_>, depth: usize) -> Result<TypedDeclarator, Unread> {
+    fn read(
+        alloc: Global,
+        reader: &mut Reader<'_>,
+        depth: usize,
+    ) -> Result<TypedDeclarator, Unread> {
         text_entity(alloc, reader, depth)
     }
 }

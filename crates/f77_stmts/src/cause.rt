@@ -111,13 +111,7 @@ fn code_by(cause: Cause, named: bool) -> u8
     match cause {
         Cause::RealLiteral => 12,
         Cause::LiteralRange => 11,
-        Cause::NameTooLong | Cause::NoExpression => {
-            if named {
-                13
-            } else {
-                20
-            }
-        }
+        Cause::NameTooLong | Cause::NoExpression => { if named { 13 } else { 20 } }
     }
 }
 

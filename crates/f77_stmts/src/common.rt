@@ -158,7 +158,11 @@ fn later(
 
 /// groups [`/` [name] `/`] list(decl), with [`,`] between, of which only the first may lack its slashes
 /// (ANSI X3.9-1978, section 8.3)
-pub fn common_groups(alloc: Global, reader: &mut Reader<'_>, depth: usize) -> Result<Items<CommonGroup>, Unread>
+pub fn common_groups(
+    alloc: Global,
+    reader: &mut Reader<'_>,
+    depth: usize,
+) -> Result<Items<CommonGroup>, Unread>
     ensures value { Reads (read depth parts.common_groups reader.old) result reader.new }
     ensures within { length reader.new ≤ length reader.old }
 {

@@ -25,11 +25,7 @@ fn step(alloc: Global, reader: &mut Reader<'_>, depth: usize) -> Result<Option<E
 }
 
 /// name `=` expr `,` expr [`,` expr] (ANSI X3.9-1978, sections 11.10 and 12.8.2.3)
-pub fn control(
-    alloc: Global,
-    reader: &mut Reader<'_>,
-    depth: usize,
-) -> Result<LoopControl, Unread>
+pub fn control(alloc: Global, reader: &mut Reader<'_>, depth: usize) -> Result<LoopControl, Unread>
     ensures value { Reads (read depth spec.control reader.old) result reader.new }
     ensures within { length reader.new ≤ length reader.old }
 {

@@ -7,7 +7,7 @@ ghost use Rattle.f77_stmts.specs.Rows.{rule};
 ghost use Rattle.f77_stmts.specs.Rows as rows;
 ghost use Rattle.f77_stmts.specs.declared.keyword.Keyword.TheVariants as word;
 
-use crate::bounds::{AnEntity, ATextEntity};
+use crate::bounds::{ATextEntity, AnEntity};
 use crate::leaves::expect_word;
 use crate::lengths::len;
 use crate::list::list;

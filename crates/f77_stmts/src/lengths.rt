@@ -38,7 +38,11 @@ pub fn len(alloc: Global, reader: &mut Reader<'_>, depth: usize) -> Result<Lengt
 }
 
 /// [`*` len]
-pub fn len_option(alloc: Global, reader: &mut Reader<'_>, depth: usize) -> Result<Option<Length>, Unread>
+pub fn len_option(
+    alloc: Global,
+    reader: &mut Reader<'_>,
+    depth: usize,
+) -> Result<Option<Length>, Unread>
     ensures value { Reads (read depth parts.len_option reader.old) result reader.new }
     ensures within { length reader.new ≤ length reader.old }
 {

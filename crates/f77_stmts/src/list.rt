@@ -20,11 +20,7 @@ pub trait Part {
     ghost reading: { ℕ → Parser Self.Tree };
 
     /// Takes the part that comes next. `Unspelled` exactly where none does.
-    fn read(
-        alloc: Global,
-        reader: &mut Reader<'_>,
-        depth: usize,
-    ) -> Result<Self::Tree, Unread>
+    fn read(alloc: Global, reader: &mut Reader<'_>, depth: usize) -> Result<Self::Tree, Unread>
         ensures value { Reads (reading depth reader.old) result reader.new }
         ensures within { length reader.new ≤ length reader.old };
 }

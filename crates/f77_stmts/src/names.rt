@@ -69,7 +69,11 @@ pub fn dummies(alloc: Global, reader: &mut Reader<'_>, depth: usize) -> Result<I
 }
 
 /// [`(` [list(name)] `)`]
-pub fn dummy_list(alloc: Global, reader: &mut Reader<'_>, depth: usize) -> Result<Items<Name>, Unread>
+pub fn dummy_list(
+    alloc: Global,
+    reader: &mut Reader<'_>,
+    depth: usize,
+) -> Result<Items<Name>, Unread>
     ensures value { Reads (read depth parts.dummy_list reader.old) result reader.new }
     ensures within { length reader.new ≤ length reader.old }
 {
@@ -94,7 +98,11 @@ fn arguments(alloc: Global, reader: &mut Reader<'_>, depth: usize) -> Result<Ite
 }
 
 /// [`(` [list(expr)] `)`]
-pub fn argument_list(alloc: Global, reader: &mut Reader<'_>, depth: usize) -> Result<Items<Expr>, Unread>
+pub fn argument_list(
+    alloc: Global,
+    reader: &mut Reader<'_>,
+    depth: usize,
+) -> Result<Items<Expr>, Unread>
     ensures value { Reads (read depth parts.argument_list reader.old) result reader.new }
     ensures within { length reader.new ≤ length reader.old }
 {

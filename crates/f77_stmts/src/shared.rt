@@ -9,7 +9,9 @@ use crate::lengths::type_spec;
 use crate::list::{Part, list, with_first};
 use crate::sees::sees_any;
 use f77_ast::expr::Ref;
-use f77_ast::specification::{EquivalenceGroup, ImplicitRule, LetterRange, NamedConstant, SaveEntry};
+use f77_ast::specification::{
+    EquivalenceGroup, ImplicitRule, LetterRange, NamedConstant, SaveEntry,
+};
 use f77_exprs::grammar::expr_within;
 use f77_exprs::reader::Reader;
 use f77_exprs::unread::Unread;
@@ -59,7 +61,11 @@ impl Part for AGroup {
 
     ghost reading = { λ depth. read depth parts.group };
 
-    fn read(alloc: Global, reader: &mut Reader<'_>, depth: usize) -> Result<EquivalenceGroup, Unread> {
+    fn read(
+        alloc: Global,
+        reader: &mut Reader<'_>,
+        depth: usize,
+    ) -> Result<EquivalenceGroup, Unread> {
         group(alloc, reader, depth)
     }
 }
@@ -124,7 +130,11 @@ impl Part for ARange {
 }
 
 /// typ `(` list(letter [`-` letter]) `)` (ANSI X3.9-1978, section 8.5)
-fn implicit_rule(alloc: Global, reader: &mut Reader<'_>, depth: usize) -> Result<ImplicitRule, Unread>
+fn implicit_rule(
+    alloc: Global,
+    reader: &mut Reader<'_>,
+    depth: usize,
+) -> Result<ImplicitRule, Unread>
     ensures value { Reads (read depth parts.implicit_rule reader.old) result reader.new }
     ensures within { length reader.new ≤ length reader.old }
 {
@@ -176,7 +186,11 @@ impl Part for ASaveEntry {
 }
 
 /// [list(name or `/` name `/`)]
-pub fn save_entries(alloc: Global, reader: &mut Reader<'_>, depth: usize) -> Result<Items<SaveEntry>, Unread>
+pub fn save_entries(
+    alloc: Global,
+    reader: &mut Reader<'_>,
+    depth: usize,
+) -> Result<Items<SaveEntry>, Unread>
     ensures value { Reads (read depth parts.save_entries reader.old) result reader.new }
     ensures within { length reader.new ≤ length reader.old }
 {

@@ -53,12 +53,7 @@ fn assigned(alloc: Global, text: &[u8], depth: usize) -> Result<Option<Stmt>, No
 }
 
 /// What is read of a text with a first word.
-fn row(
-    alloc: Global,
-    text: &[u8],
-    depth: usize,
-    keyword: Keyword,
-) -> Result<Option<Stmt>, NoMemory>
+fn row(alloc: Global, text: &[u8], depth: usize, keyword: Keyword) -> Result<Option<Stmt>, NoMemory>
     ensures { IfOk result (λ v. v ≡ spec.whole (read depth (rows.rule keyword) (spec.behind_word keyword text.now))) }
 {
     let (_, rest) = text.split_at(keyword.spelling().len().min(text.len()));
@@ -69,12 +64,7 @@ fn row(
 
 /// The statement of a text by its first word, where all words are sought, or those that a logical IF may hold.
 #[tactic(auto, unfolding(crate::specs::Statement::by_word))]
-fn by_word(
-    alloc: Global,
-    text: &[u8],
-    depth: usize,
-    all: bool,
-) -> Result<Option<Stmt>, NoMemory>
+fn by_word(alloc: Global, text: &[u8], depth: usize, all: bool) -> Result<Option<Stmt>, NoMemory>
     ensures { IfOk result (λ v. v ≡ spec.by_word all depth text.now) }
 {
     match keyword_at(text) {

@@ -75,7 +75,7 @@ const DECLARATIONS: &[u8] =
 
 /// Texts that are refused as no statement, with `;` between.
 const NO_STATEMENT: &[u8] =
-    b";1;A;A=;=1;A=1,2;DO10I=1,2,3,4;DO0I=1,2;DO100000I=1,2;DO10=1,2;DOI=1,2;CONTINUEX;ELSEX;ENDIFX;ENDX;STOP123456;STOPX;STOP'';\
+    b";1;A;A=;=1;A=1,2;DO10I=1,2,3,4;DO0I=1,2;DO100000,I=1,2;DO10=1,2;DOI=1,2;CONTINUEX;ELSEX;ENDIFX;ENDX;STOP123456;STOPX;STOP'';\
     GOTO;GOTO0;GOTO123456;GOTO(10);GOTO();GOTO(10),;IF(A);IF(A)1,2;IF(A)DO10I=1,2;IF(A)IF(B)THEN;IF(A)IF(B)C=1;IF(A)END;\
     IF(A)ELSE;IF(A)THENX;IF()THEN;ELSEIF(A);CALL;CALLP(;CALLP(1)(2);CALLABCDEFG;PROGRAM;PROGRAMABCDEFG;SUBROUTINE;SUBROUTINES(1);\
     FUNCTIONF;INTEGER;INTEGERA*4;INTEGERFUNCTIONF;INTEGER,A;LOGICALA*4;CHARACTER*;CHARACTER,C;CHARACTER*5,;DIMENSIONA;DIMENSION;\
@@ -100,7 +100,7 @@ const LITERAL_RANGE: &[u8] =
 
 /// Texts that are refused for a long name.
 const NAME_TOO_LONG: &[u8] =
-    b"ABCDEFG=1;PARAMETERN=5;A=ABCDEFG;A(1)=1+LONGNAME;IF(A)LONGNAME=1;DO10LONGNAM=1,2;DO10I=LONGNAM,2;PARAMETER(ABCDEFG=1);A='B=1'//LONGNAME";
+    b"ABCDEFG=1;PARAMETERN=5;DO100000I=1,2;A=ABCDEFG;A(1)=1+LONGNAME;IF(A)LONGNAME=1;DO10LONGNAM=1,2;DO10I=LONGNAM,2;PARAMETER(ABCDEFG=1);A='B=1'//LONGNAME";
 
 /// Adds bytes.
 fn put(into: &mut Bytes, bytes: &[u8]) -> Result<(), NoMemory> {
@@ -690,5 +690,50 @@ fn texts_are_refused_by_their_causes(rt: HostRuntime) -> Result<(), Fail> {
     check_refused(&rt, rt.alloc(), b"7:12".as_slice(), REAL_LITERAL)?;
     check_refused(&rt, rt.alloc(), b"7:11".as_slice(), LITERAL_RANGE)?;
     check_refused(&rt, rt.alloc(), b"7:13".as_slice(), NAME_TOO_LONG)?;
+    Ok(())
+}
+
+/// A text of `front`, then so many times `opens`, then `middle`, then so many times `closes`.
+fn nested(
+    alloc: Global,
+    front: &[u8],
+    count: usize,
+    opens: &[u8],
+    middle: &[u8],
+    closes: &[u8],
+) -> Result<Bytes, NoMemory> {
+    let mut text = Bytes::new(alloc);
+    text.push_slice(front)?;
+    for _turn in 0..count {
+        text.push_slice(opens)?;
+    }
+    text.push_slice(middle)?;
+    for _turn in 0..count {
+        text.push_slice(closes)?;
+    }
+    Ok(text)
+}
+
+#[test]
+fn the_deepest_texts_are_read(rt: HostRuntime) -> Result<(), Fail> {
+    let opens = b"(".as_slice();
+    let parentheses = nested(
+        rt.alloc(),
+        b"A=".as_slice(),
+        650,
+        opens,
+        b"1".as_slice(),
+        b")".as_slice(),
+    )?;
+    assert!(rt; spelled(rt.alloc(), parentheses.as_slice())?.len() == 1307);
+    let lists = nested(
+        rt.alloc(),
+        b"PRINT*,".as_slice(),
+        160,
+        opens,
+        b"A".as_slice(),
+        b",I=1,2)".as_slice(),
+    )?;
+    assert!(rt; spelled(rt.alloc(), lists.as_slice())?.len() == 1287);
     Ok(())
 }

@@ -1,7 +1,7 @@
-use Rattle.std.proofs.Common.{rules, arith, ◌≡◌, ◌≤◌, ◌<◌, ◌-◌, ◌++◌, [], ◌∷◌, length, ap, sym, ◌∙◌, subst, refl, true, false, Some, None}
+use Rattle.std.proofs.Common.{rules, arith, ◌≡◌, ◌≤◌, ◌-◌, ◌++◌, [], ◌∷◌, length, ap, sym, ◌∙◌, subst, refl, true, false}
 use Rattle.std.proofs.lemmas.Grind.{common_steps}
 use Rattle.f77_exprs.specs.Read.{Reads}
-use Rattle.f77_stmts.specs.Items.{is_implied, goes_on, implied, item_of, items_within}
+use Rattle.f77_stmts.specs.Items.{is_implied, goes_on, item_of, items_within}
 use Rattle.f77_stmts.proofs.ItemTurns.{item_implied, item_plain, no_depth, one_deeper, items_start, items_missing, items_ended, items_fail, items_go}
 use Rattle.f77_stmts.proofs.items.+items.Goals as goal
 

@@ -1,6 +1,6 @@
-use Rattle.std.proofs.Common.{◌≡◌, ◌≤◌, ◌+◌, ◌*◌, ◌-◌, length}
+use Rattle.std.proofs.Common.{◌≤◌, ◌+◌, ◌*◌, ◌-◌, length}
 use Rattle.f77_exprs.proofs.Turns.{Turns}
-use Rattle.f77_stmts.specs.Items.{items_within, item_of, items_of, items_behind}
+use Rattle.f77_stmts.specs.Items.{items_within, item_of, items_behind}
 use Rattle.f77_stmts.proofs.items.+items.Given as goal
 
 abbrev pub decreases-implied : goal.decreases-implied

@@ -1,4 +1,4 @@
-use Rattle.std.proofs.Common.{rules, arith, ◌≡◌, ◌<◌}
+use Rattle.std.proofs.Common.{rules, arith}
 use Rattle.f77_stmts.proofs.LeafLemmas.{label_there, label_zero, label_missing}
 use Rattle.f77_stmts.proofs.leaves.a_label.Goals as goal
 

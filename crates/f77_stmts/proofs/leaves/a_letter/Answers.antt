@@ -1,4 +1,4 @@
-use Rattle.std.proofs.Common.{rules, sym, ◌∙◌, ◌≡◌, Some, None}
+use Rattle.std.proofs.Common.{sym, ◌∙◌}
 use Rattle.f77_stmts.proofs.LeafLemmas.{letter_there, letter_other, letter_none}
 use Rattle.f77_stmts.proofs.leaves.a_letter.Goals as goal
 

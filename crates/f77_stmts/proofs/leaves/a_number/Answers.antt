@@ -1,5 +1,5 @@
-use Rattle.std.proofs.Common.{rules, ◌≡◌, pos, ap, ◌∙◌, subst, sym}
-use Rattle.std.specs.Prelude.{FitsSigned, SomeIff}
+use Rattle.std.proofs.Common.{rules, ◌∙◌}
+use Rattle.std.specs.Prelude.{FitsSigned}
 use Rattle.std.specs.Int.{w64}
 use Rattle.f77_exprs.proofs.Numbers.{kept}
 use Rattle.f77_stmts.proofs.LeafLemmas.{int_there, int_missing, natural}

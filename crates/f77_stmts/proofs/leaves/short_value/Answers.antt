@@ -1,5 +1,5 @@
-use Rattle.std.proofs.Common.{rules, sym, ◌∙◌, ◌≡◌, ◌≤◌, length, subst, ap, arith, Some, None}
-use Rattle.std.specs.Prelude.{SomeIff, FitsSigned}
+use Rattle.std.proofs.Common.{rules, ◌∙◌, ap, arith}
+use Rattle.std.specs.Prelude.{FitsSigned}
 use Rattle.std.specs.Int.{w64}
 use Rattle.f77_exprs.proofs.Numbers.{kept}
 use Rattle.f77_stmts.specs.Form.{small}

@@ -1,4 +1,3 @@
-use Rattle.std.proofs.Common.{rules, arith, ◌≡◌, ◌<◌}
 use Rattle.f77_stmts.proofs.LeafLemmas.{short_read, short_unread}
 use Rattle.f77_stmts.proofs.leaves.some_digits.Goals as goal
 

@@ -1,4 +1,4 @@
-use Rattle.std.proofs.Common.{◌≡◌, ◌≤◌, length}
+use Rattle.std.proofs.Common.{◌≤◌, length}
 use Rattle.f77_exprs.proofs.Turns.{Turns}
 use Rattle.f77_stmts.specs.Form.{list_of, more_of}
 use Rattle.f77_stmts.proofs.list.list.Given as goal

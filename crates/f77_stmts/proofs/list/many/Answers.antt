@@ -1,4 +1,4 @@
-use Rattle.std.proofs.Common.{rules, arith, ◌≡◌, ◌≤◌, ◌<◌, ◌++◌, [], ◌∷◌, length, ap, sym, ◌∙◌, true, false, Some, None}
+use Rattle.std.proofs.Common.{rules, arith, ◌≡◌, ◌≤◌, ◌<◌, [], length, ◌∙◌, true, false}
 use Rattle.std.proofs.lemmas.Grind.{common_steps}
 use Rattle.f77_exprs.specs.Reading.{is_empty}
 use Rattle.f77_stmts.specs.Form.{many_of}
