@@ -1,0 +1,14 @@
+pub mod Blocks
+pub mod Breaks
+pub mod Jumps
+pub mod Labels
+pub mod Limits
+pub mod Names
+pub mod Order
+pub mod Program
+pub mod Ranges
+pub mod Shape
+pub mod Stretches
+pub mod Tables
+pub mod Targets
+pub mod Units
