@@ -2,6 +2,7 @@
 use Rattle.std.proofs.Common.{◌≡◌, ℕ, suc, ◌+◌, ◌-◌, ◌<◌, ◌≤◌, Bool, true, false, List, [], ◌∷◌, ◌++◌, length, get_or, drop, Option, None, Some, if◌then◌else◌, refl, sym, ap, ◌∙◌, subst, arith, add-one}
 use Rattle.std.proofs.lemmas.Bool.Decides.{nat_tests}
 use Rattle.std.proofs.lemmas.List.{drop_more, drop_all}
+use Rattle.std.specs.List.{flat_map}
 use Rattle.f77_ast.specs.declared.program.Listed.{Listed}
 use Rattle.f77_ast.specs.declared.refusal.Refusal.{Refusal}
 use Rattle.f77_cards.specs.Cards.{when, is_earlier, earlier_of, first_of}
@@ -46,7 +47,7 @@ first_of-append [] ys = refl
 first_of-append (x ∷ xs) ys =
     ap (λ o. sooner (Some x) o) (first_of-append xs ys) ∙ sym (sooner-assoc (Some x) (first_of xs) (first_of ys))
 
-first_of-when : (b : Bool) (r : Refusal) (rs : List Refusal) → first_of (when b r ++ rs) ≡ sooner (if b then Some r else None) (first_of rs)
+pub first_of-when : (b : Bool) (r : Refusal) (rs : List Refusal) → first_of (when b r ++ rs) ≡ sooner (if b then Some r else None) (first_of rs)
 first_of-when true r rs = refl
 first_of-when false r rs = refl
 
@@ -99,3 +100,16 @@ turned_back code rule unit place listed first found next breaks some within stan
   where
     back : place - 1 + 1 ≡ place
     back = omega arith
+
+-- the first refusal of two lists, by those of each
+pub joined_first : (a b : Option Refusal) (xs ys : List Refusal) → a ≡ first_of xs → b ≡ first_of ys → sooner a b ≡ first_of (xs ++ ys)
+joined_first a b xs ys e f = ap (λ o. sooner o b) e ∙ ap (sooner (first_of xs)) f ∙ sym (first_of-append xs ys)
+
+-- one turn of a loop over parts, each of which has refusals of its own
+pub parts_turn : {A : Type 0} (f : A → List Refusal) (parts : List A) (i : ℕ) (x : A) (first found next total : Option Refusal) → i < length parts → x ≡ get_or parts i x → next ≡ sooner first found → found ≡ first_of (f x) → sooner first (first_of (flat_map f (drop i parts))) ≡ total → sooner next (first_of (flat_map f (drop (i + 1) parts))) ≡ total
+parts_turn {A = A} f parts i x first found next total within stands e made so_far =
+    ap (λ o. sooner o (first_of (flat_map f (drop (i + 1) parts)))) (e ∙ ap (sooner first) made)
+    ∙ sooner-assoc first (first_of (f x)) (first_of (flat_map f (drop (i + 1) parts)))
+    ∙ ap (sooner first) (sym (first_of-append (f x) (flat_map f (drop (i + 1) parts))))
+    ∙ ap (λ (l : List A). sooner first (first_of (flat_map f l))) (sym (drop_more parts i x within ∙ ap (λ y. y ∷ drop (i + 1) parts) (sym stands)))
+    ∙ so_far

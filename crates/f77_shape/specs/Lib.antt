@@ -1,10 +1,13 @@
 pub mod Blocks
 pub mod Breaks
+pub mod Counts
 pub mod Jumps
 pub mod Labels
 pub mod Limits
+pub mod NameSets
 pub mod Names
 pub mod Order
+pub mod Places
 pub mod Program
 pub mod Ranges
 pub mod Shape

@@ -7,6 +7,7 @@ use Rattle.f77_ast.specs.declared.expr.Expr.{Expr}
 use Rattle.f77_ast.specs.declared.expr.Expr.TheFolds.{fold-Expr, fold-Ref}
 use Rattle.f77_ast.specs.declared.expr.Expr.TheOpen.{Expr-F, Part-F, Ref-F}
 use Rattle.f77_ast.specs.declared.expr.Expr.TheOpen as layer
+use Rattle.f77_ast.specs.declared.expr.Part.{Part, out-Part}
 use Rattle.f77_ast.specs.declared.expr.Ref.{Ref}
 use Rattle.f77_ast.specs.declared.initial.Constant.TheVariants as constant
 use Rattle.f77_ast.specs.declared.initial.Constant.{Constant}
@@ -17,6 +18,9 @@ use Rattle.f77_ast.specs.declared.initial.Repeat.{Repeat}
 use Rattle.f77_ast.specs.declared.specification.Bound.{Bound}
 use Rattle.f77_ast.specs.declared.specification.CommonGroup.{CommonGroup}
 use Rattle.f77_ast.specs.declared.specification.Declarator.{Declarator}
+use Rattle.f77_ast.specs.declared.specification.EquivalenceGroup.{EquivalenceGroup}
+use Rattle.f77_ast.specs.declared.specification.ImplicitRule.{ImplicitRule}
+use Rattle.f77_ast.specs.declared.specification.NamedConstant.{NamedConstant}
 use Rattle.f77_ast.specs.declared.specification.Length.TheVariants as length
 use Rattle.f77_ast.specs.declared.specification.Length.{Length}
 use Rattle.f77_ast.specs.declared.specification.SaveEntry.TheVariants as entry
@@ -77,6 +81,16 @@ abbrev pub option_names : Option Expr → List (List ℕ)
 option_names None = []
 option_names (Some expr) = expr_names expr
 
+-- the names in the subscripts or arguments of a reference
+abbrev pub args_names : Option (List Expr) → List (List ℕ)
+args_names None = []
+args_names (Some args) = flat_map expr_names args
+
+-- the names in the bounds of a substring
+abbrev pub option_part_names : Option Part → List (List ℕ)
+option_part_names None = []
+option_part_names (Some part) = option_names (out-Part part).low ++ option_names (out-Part part).high
+
 -- the names in the control of a DO or implied DO
 abbrev pub control_names : LoopControl → List (List ℕ)
 control_names control = control.variable ∷ (expr_names control.first ++ expr_names control.last ++ option_names control.step)
@@ -121,10 +135,22 @@ entity_names entity = declarator_names entity.declarator ++ length_names entity.
 abbrev pub group_names : CommonGroup → List (List ℕ)
 group_names group = option_to_list group.block ++ flat_map declarator_names group.members
 
+-- the names in a list of EQUIVALENCE
+abbrev pub member_names : EquivalenceGroup → List (List ℕ)
+member_names group = flat_map ref_names group.members
+
+-- the name of a constant, and those in its value
+abbrev pub named_names : NamedConstant → List (List ℕ)
+named_names constant = constant.name ∷ expr_names constant.value
+
+-- the names in a rule of IMPLICIT
+abbrev pub rule_names : ImplicitRule → List (List ℕ)
+rule_names rule = type_names rule.typ
+
 -- the name in an entry of SAVE
-abbrev pub entry_name : SaveEntry → List ℕ
-entry_name (entry.Entity name) = name
-entry_name (entry.Block name) = name
+abbrev pub entry_names : SaveEntry → List (List ℕ)
+entry_names (entry.Entity name) = name ∷ []
+entry_names (entry.Block name) = name ∷ []
 
 -- the names in a constant of DATA, and in how often it stands
 abbrev pub constant_names : Constant → List (List ℕ)
@@ -169,10 +195,10 @@ stmt_step (stmt.Function t name dummies) = option_type_names t ++ name ∷ dummi
 stmt_step (stmt.Declare t entities) = type_names t ++ flat_map entity_names entities
 stmt_step (stmt.Dimension arrays) = flat_map declarator_names arrays
 stmt_step (stmt.Common groups) = flat_map group_names groups
-stmt_step (stmt.Equivalence groups) = flat_map (λ group. flat_map ref_names group.members) groups
-stmt_step (stmt.Parameter constants) = flat_map (λ constant. constant.name ∷ expr_names constant.value) constants
-stmt_step (stmt.Implicit rules) = flat_map (λ rule. type_names rule.typ) rules
-stmt_step (stmt.Save entries) = map entry_name entries
+stmt_step (stmt.Equivalence groups) = flat_map member_names groups
+stmt_step (stmt.Parameter constants) = flat_map named_names constants
+stmt_step (stmt.Implicit rules) = flat_map rule_names rules
+stmt_step (stmt.Save entries) = flat_map entry_names entries
 stmt_step (stmt.Init groups) = flat_map data_names groups
 
 -- the names in a statement

@@ -1,11 +1,12 @@
 -- DO ranges: their terminal statements, and how they nest (ANSI X3.9-1978, sections 11.10 and 11.10.1).
-use Rattle.std.specs.Prelude.{ℕ, suc, Bool, true, false, ◌&&◌, ◌||◌, not, ◌==◌, nat_lt, List, Option, None, Some, slice_get}
+use Rattle.std.specs.Prelude.{ℕ, suc, Bool, true, false, ◌&&◌, ◌||◌, not, nat_lt, List, Option, None, Some, slice_get}
 use Rattle.std.specs.List.{list_any}
 use Rattle.f77_ast.specs.declared.program.Listed.{Listed}
 use Rattle.f77_meaning.specs.Loops.{terminal_of}
 use Rattle.f77_meaning.specs.Ranges.{may_end_range}
 use Rattle.f77_shape.specs.Labels.{target_in}
-use Rattle.f77_shape.specs.Stretches.{Stretch, holds, ranges_of, blocks_of}
+use Rattle.f77_shape.specs.declared.stretches.Stretch.{Stretch}
+use Rattle.f77_shape.specs.Stretches.{holds, ranges_of, blocks_of}
 
 -- whether there is a statement, and it may be a terminal statement
 abbrev pub may_end : Option Listed → Bool
@@ -20,16 +21,21 @@ crosses outer inner = holds outer inner.opens && nat_lt outer.last inner.last
 abbrev pub crosses_a_range : (unit : List Listed) → Stretch → Bool
 crosses_a_range unit range = list_any (λ other. crosses range other || crosses other range) (ranges_of unit)
 
+-- whether one of two tests holds, and not the other
+abbrev pub is_one_of : Bool → Bool → Bool
+is_one_of true other = not other
+is_one_of false other = other
+
 -- DO ranges and IF blocks nest, and an ELSE IF or ELSE stands in no DO range in which its IF doesn't stand: a DO statement
 -- and its terminal statement stand in the same IF blocks
 abbrev pub leaves_a_block : (unit : List Listed) → Stretch → Bool
-leaves_a_block unit range = list_any (λ block. not (holds block range.opens == holds block range.last)) (blocks_of unit)
+leaves_a_block unit range = list_any (λ block. is_one_of (holds block range.opens) (holds block range.last)) (blocks_of unit)
 
 -- the terminal statement stands later in the unit and may be one
 abbrev pub breaks_to : (unit : List Listed) → (place : ℕ) → Option ℕ → Bool
 breaks_to unit place None = true
 breaks_to unit place (Some target) =
-    let range = record { opens = place; last = target } in
+    let range : Stretch = record { opens = place; last = target } in
     not (nat_lt place target && may_end (slice_get unit target)) || crosses_a_range unit range || leaves_a_block unit range
 
 abbrev pub breaks_with : (unit : List Listed) → (place : ℕ) → Option ℕ → Bool

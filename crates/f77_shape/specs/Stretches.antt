@@ -3,14 +3,10 @@ use Rattle.std.specs.Prelude.{ℕ, suc, ◌-◌, Bool, ◌&&◌, not, nat_lt, Li
 use Rattle.std.specs.Option.{option_to_list, option_and_then}
 use Rattle.f77_ast.specs.declared.program.Listed.{Listed}
 use Rattle.f77_ast.specs.declared.stmt.Stmt.{Stmt}
+use Rattle.f77_shape.specs.declared.stretches.Stretch.{Stretch}
 use Rattle.f77_meaning.specs.Loops.{terminal_of}
 use Rattle.f77_shape.specs.Blocks.{next_parts, opens_block}
 use Rattle.f77_shape.specs.Labels.{target_in}
-
--- the statements behind the one that opens it, to the last one; none where that doesn't stand behind it
-pub record Stretch : Type 0 where
-  pub opens : ℕ
-  pub last : ℕ
 
 -- whether the statement at a place stands in it
 abbrev pub holds : Stretch → (place : ℕ) → Bool
@@ -43,8 +39,8 @@ block_at place listed following = if opens_block listed.stmt then block_before p
 
 abbrev pub blocks_from : (place : ℕ) → List Listed → List Stretch
 blocks_from place [] = []
-blocks_from place (listed ∷ following) = option_to_list (block_at place listed following) ++ blocks_from (suc place) following
+blocks_from place (listed ∷ following) = blocks_from (suc place) following ++ option_to_list (block_at place listed following)
 
--- the IF blocks of a unit
+-- the IF blocks of a unit, the last one first
 abbrev pub blocks_of : List Listed → List Stretch
 blocks_of unit = blocks_from 0 unit

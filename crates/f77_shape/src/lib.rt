@@ -12,6 +12,7 @@ mod labels;
 mod limits;
 mod names;
 mod order;
+mod places;
 mod program;
 mod ranges;
 pub mod shape;

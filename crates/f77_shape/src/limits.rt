@@ -1,8 +1,8 @@
 //! The limits on statements, units and names; they are this project's own.
-ghost use Rattle.std.specs.Prelude.{◌≡◌, ◌+◌, ◌^◌, ◌<◌, length, IfOk};
-ghost use Rattle.std.specs.List.{sum_by};
+ghost use Rattle.std.specs.Prelude.{◌≡◌, ◌+◌, ◌≤◌, ℕ, min, IfOk};
 ghost use Rattle.f77_cards.specs.Cards.{first_of};
-ghost use Rattle.f77_shape.specs.Limits.{statement_breaks, unit_breaks, name_breaks};
+ghost use Rattle.f77_shape.specs.Counts.{IsCounted};
+ghost use Rattle.f77_shape.specs.Limits.{statement_breaks, unit_breaks, name_breaks, passes};
 
 use crate::breaks::{SIZE_LIMIT, sooner, when};
 use crate::names::Names;
@@ -41,20 +41,56 @@ pub fn too_many_units(units: &[Unit]) -> Option<Refusal>
     }
 }
 
+/// So many names and more, or one more than may be where they are more than that.
+fn capped(others: usize, count: usize) -> usize
+    ensures { result ≡ min (others + count) 10001 }
+{
+    others.saturating_add(count).min(MOST_NAMES + 1)
+}
+
+/// Whether the limit on names is passed between two numbers of names.
+fn passes(before: usize, after: usize) -> bool
+    ensures { result ≡ passes before after }
+{
+    before <= MOST_NAMES && after > MOST_NAMES
+}
+
+/// What the names of a unit come to.
+#[derive(Drop)]
+struct Counted {
+    /// The refusal of the statement at which the limit is passed.
+    over: Option<Refusal>,
+    /// The number of names with those of the units before, or one more than may be where they are more than that.
+    count: usize,
+}
+
+/// Counts the names of a unit, with those of the units before.
+fn count_names(alloc: Global, others: usize, unit: &[Listed]) -> Result<Counted, NoMemory>
+    requires { others ≤ 10001 }
+    ensures { IfOk result (λ counted. (all : ℕ) → others ≡ min all 10001 → IsCounted all unit.now counted.over counted.count) }
+{
+    let mut names = Names::new(alloc);
+    let mut over = None;
+    let mut count = others;
+    for listed in unit {
+        names.statement(&listed.stmt)?;
+        let after = capped(others, names.len());
+        over = sooner(over, when(passes(count, after), listed, SIZE_LIMIT));
+        count = after;
+    }
+    Ok(Counted { over, count })
+}
+
 /// Code 56: the statement at which the number of names passes the limit.
-pub fn too_many_names(alloc: Global, units: &[Unit]) -> Result<Option<Refusal>, NoMemory> {
+pub fn too_many_names(alloc: Global, units: &[Unit]) -> Result<Option<Refusal>, NoMemory>
+    ensures { IfOk result (λ first. first ≡ first_of (name_breaks 0 units.now)) }
+{
     let mut first = None;
-    let mut others: usize = 0;
+    let mut others = 0;
     for unit in units {
-        let mut names = Names::new(alloc);
-        for listed in unit.listing.as_slice() {
-            let before = others.saturating_add(names.len());
-            names.statement(&listed.stmt)?;
-            let after = others.saturating_add(names.len());
-            let passes = before <= MOST_NAMES && after > MOST_NAMES;
-            first = sooner(first, when(passes, listed, SIZE_LIMIT));
-        }
-        others = others.saturating_add(names.len());
+        let counted = count_names(alloc, others, unit.listing.as_slice())?;
+        first = sooner(first, counted.over);
+        others = counted.count;
     }
     Ok(first)
 }

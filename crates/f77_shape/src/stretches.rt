@@ -1,4 +1,12 @@
-//! DO ranges and IF blocks as stretches of a unit: which of them hold a statement.
+//! DO ranges and IF blocks, as stretches of a unit.
+ghost use Rattle.std.specs.Prelude.{◌≡◌, ◌++◌, List, [], ◌∷◌, reverse, IfOk, OnOk, None, if◌then◌else◌};
+ghost use Rattle.std.specs.List.{list_any};
+ghost use Rattle.std.specs.Option.{option_to_list, option_and_then};
+ghost use Rattle.f77_ast.specs.declared.program.Listed.{Listed};
+ghost use Rattle.f77_meaning.specs.Loops.{terminal_of};
+ghost use Rattle.f77_shape.specs.Blocks.{opens_block, parts_before};
+ghost use Rattle.f77_shape.specs.Stretches.{holds, range_to, ranges_of, block_before, blocks_of};
+ghost use Rattle.f77_shape.specs.Targets.{place_of, AreTargets};
 
 use crate::targets::{Targets, terminal_of};
 use f77_ast::program::Listed;
@@ -6,26 +14,83 @@ use f77_ast::stmt::Stmt;
 use hyb_base::no_memory::NoMemory;
 use std::alloc::Global;
 
-/// For each statement of a unit the place of the last statement of the range or block that it opens.
-pub type Lasts = Vec<Option<usize>>;
-
-/// The place of a DO statement's terminal statement, where that stands behind it.
-fn range_end(targets: &Targets, place: usize, stmt: &Stmt) -> Option<usize> {
-    let target = targets.find(terminal_of(stmt)?)?;
-    if place < target { Some(target) } else { None }
+/// A DO range or an IF block: the statements behind the one that opens it, to the last one. Places are counted in the
+/// unit from 0.
+#[derive(Clone, Copy)]
+pub struct Stretch {
+    /// The place of the statement that opens it.
+    pub opens: usize,
+    /// The place of its last statement.
+    pub last: usize,
 }
 
-/// The ends of the DO ranges of a unit.
-pub fn range_ends(alloc: Global, unit: &[Listed], targets: &Targets) -> Result<Lasts, NoMemory> {
-    let mut ends = Vec::new(alloc);
-    for (place, listed) in unit.iter().enumerate() {
-        ends.push(range_end(targets, place, &listed.stmt))?;
+/// Whether a stretch holds the statement at a place.
+pub fn holds(stretch: &Stretch, place: usize) -> bool
+    ensures { result ≡ holds stretch.now place }
+{
+    stretch.opens < place && place <= stretch.last
+}
+
+/// Adds a stretch, if any.
+fn add(stretches: &mut Vec<Stretch>, stretch: Option<Stretch>) -> Result<(), NoMemory>
+    ensures { OnOk result (stretches.new.items ≡ stretches.old.items ++ option_to_list stretch) }
+{
+    if let Some(stretch) = stretch {
+        stretches.push(stretch)?;
     }
-    Ok(ends)
+    Ok(())
+}
+
+/// The range from a place to a target behind it.
+fn range_to(place: usize, target: Option<usize>) -> Option<Stretch>
+    ensures { result ≡ range_to place target }
+{
+    match target {
+        None => None,
+        Some(target) => {
+            if place < target {
+                Some(Stretch {
+                    opens: place,
+                    last: target,
+                })
+            } else {
+                None
+            }
+        }
+    }
+}
+
+/// The place of the terminal statement that a DO statement names.
+fn terminal_place(targets: &Targets, stmt: &Stmt) -> Option<usize>
+    ensures { result ≡ option_and_then (place_of targets.now) (terminal_of stmt.now) }
+{
+    match terminal_of(stmt) {
+        None => None,
+        Some(label) => targets.find(label),
+    }
+}
+
+/// The DO ranges of a unit.
+pub fn ranges_of(
+    alloc: Global,
+    unit: &[Listed],
+    targets: &Targets,
+) -> Result<Vec<Stretch>, NoMemory>
+    requires { AreTargets unit.now targets.now }
+    ensures { IfOk result (λ ranges. ranges.items ≡ ranges_of unit.now) }
+{
+    let mut ranges = Vec::new(alloc);
+    for (place, listed) in unit.iter().enumerate() {
+        let range = range_to(place, terminal_place(targets, &listed.stmt));
+        add(&mut ranges, range)?;
+    }
+    Ok(ranges)
 }
 
 /// Whether a statement opens an IF block.
-fn opens_block(stmt: &Stmt) -> bool {
+fn opens_block(stmt: &Stmt) -> bool
+    ensures { result ≡ opens_block stmt.now }
+{
     match stmt {
         Stmt::BlockIf(_) => true,
         Stmt::ElseIf(_) => true,
@@ -34,170 +99,69 @@ fn opens_block(stmt: &Stmt) -> bool {
     }
 }
 
-/// Takes a statement before the next parts of the open IFs, the innermost one's last.
-fn step_back(parts: &mut Vec<usize>, place: usize, stmt: &Stmt) -> Result<(), NoMemory> {
+/// Goes back by a statement, where these are the next parts of the open IFs, the innermost one's last.
+fn step_back(parts: &mut Vec<usize>, place: usize, stmt: &Stmt) -> Result<(), NoMemory>
+    ensures { OnOk result (reverse parts.new.items ≡ parts_before stmt.now place (reverse parts.old.items)) }
+{
     match stmt {
         Stmt::EndIf => {
             parts.push(place)?;
+            Ok(())
         }
         Stmt::Else => {
             let _next = parts.pop();
             parts.push(place)?;
+            Ok(())
         }
         Stmt::ElseIf(_) => {
             let _next = parts.pop();
             parts.push(place)?;
+            Ok(())
         }
         Stmt::BlockIf(_) => {
             let _next = parts.pop();
+            Ok(())
         }
-        _ => {}
+        _ => Ok(()),
     }
-    Ok(())
 }
 
-/// The ends of the IF blocks of a unit.
-pub fn block_ends(alloc: Global, unit: &[Listed]) -> Result<Lasts, NoMemory> {
-    let mut ends = Vec::new(alloc);
+/// The block from a place to the next part of the innermost open IF.
+fn block_before(place: usize, parts: &Vec<usize>) -> Option<Stretch>
+    ensures { result ≡ block_before place (reverse parts.now.items) }
+{
+    match parts.last() {
+        None => None,
+        Some(part) => Some(Stretch {
+            opens: place,
+            last: part.saturating_sub(1),
+        }),
+    }
+}
+
+/// The block that a statement opens.
+fn block_at(place: usize, stmt: &Stmt, parts: &Vec<usize>) -> Option<Stretch>
+    ensures { result ≡ (if opens_block stmt.now then block_before place (reverse parts.now.items) else None) }
+{
+    if opens_block(stmt) {
+        block_before(place, parts)
+    } else {
+        None
+    }
+}
+
+/// The IF blocks of a unit, the last one first.
+pub fn blocks_of(alloc: Global, unit: &[Listed]) -> Result<Vec<Stretch>, NoMemory>
+    ensures { IfOk result (λ blocks. blocks.items ≡ blocks_of unit.now) }
+{
+    let mut blocks = Vec::new(alloc);
     let mut parts: Vec<usize> = Vec::new(alloc);
     let mut place = unit.len();
     while place > 0 {
         place -= 1;
         let stmt = &unit[place].stmt;
-        let end = if opens_block(stmt) {
-            parts.last().map(|part| part.saturating_sub(1))
-        } else {
-            None
-        };
-        ends.push(end)?;
+        add(&mut blocks, block_at(place, stmt, &parts))?;
         step_back(&mut parts, place, stmt)?;
     }
-    ends.reverse();
-    Ok(ends)
-}
-
-/// A range or block.
-#[derive(Clone, Copy)]
-struct Stretch {
-    opens: usize,
-    last: usize,
-}
-
-/// For each place of a unit the greatest place that opens a stretch which holds it.
-pub fn latest_openers(
-    alloc: Global,
-    lasts: &[Option<usize>],
-) -> Result<Vec<Option<usize>>, NoMemory> {
-    let mut latest = Vec::new(alloc);
-    let mut open: Vec<Stretch> = Vec::new(alloc);
-    for (place, last) in lasts.iter().enumerate() {
-        drop_ended(&mut open, place);
-        latest.push(open.last().map(|stretch| stretch.opens))?;
-        if let Some(last) = last {
-            open.push(Stretch {
-                opens: place,
-                last: *last,
-            })?;
-        }
-    }
-    Ok(latest)
-}
-
-/// Takes off the last stretches that end before a place.
-fn drop_ended(open: &mut Vec<Stretch>, place: usize) {
-    while let Some(stretch) = open.last().copied() {
-        if stretch.last >= place {
-            return;
-        }
-        let _ended = open.pop();
-    }
-}
-
-/// For each place the least place that opens a stretch which ends there.
-fn first_openers(alloc: Global, lasts: &[Option<usize>]) -> Result<Vec<Option<usize>>, NoMemory> {
-    let mut openers = vec![in alloc; None; lasts.len()]?;
-    let mut place = lasts.len();
-    while place > 0 {
-        place -= 1;
-        if let Some(last) = lasts[place] {
-            if last < openers.len() {
-                openers[last] = Some(place);
-            }
-        }
-    }
-    Ok(openers)
-}
-
-/// For each place of a unit the least last place of a stretch that holds it.
-pub fn earliest_lasts(
-    alloc: Global,
-    lasts: &[Option<usize>],
-) -> Result<Vec<Option<usize>>, NoMemory> {
-    let openers = first_openers(alloc, lasts)?;
-    let mut earliest = Vec::new(alloc);
-    let mut open: Vec<Stretch> = Vec::new(alloc);
-    let mut place = lasts.len();
-    while place > 0 {
-        place -= 1;
-        if let Some(opens) = openers[place] {
-            open.push(Stretch { opens, last: place })?;
-        }
-        drop_unopened(&mut open, place);
-        earliest.push(open.last().map(|stretch| stretch.last))?;
-    }
-    earliest.reverse();
-    Ok(earliest)
-}
-
-/// Takes off the last stretches that open at a place or behind it.
-fn drop_unopened(open: &mut Vec<Stretch>, place: usize) {
-    while let Some(stretch) = open.last().copied() {
-        if stretch.opens < place {
-            return;
-        }
-        let _unopened = open.pop();
-    }
-}
-
-/// The stretches of a unit, by what holds each place.
-#[derive(Drop)]
-pub struct Held {
-    /// The greatest place that opens a stretch which holds the place.
-    latest: Vec<Option<usize>>,
-    /// The least last place of a stretch that holds the place.
-    earliest: Vec<Option<usize>>,
-}
-
-impl Held {
-    /// What holds the places of a unit with these stretches.
-    pub fn new(alloc: Global, lasts: &[Option<usize>]) -> Result<Held, NoMemory> {
-        Ok(Held {
-            latest: latest_openers(alloc, lasts)?,
-            earliest: earliest_lasts(alloc, lasts)?,
-        })
-    }
-
-    /// Whether a stretch that opens behind a place holds another.
-    pub fn opens_behind(&self, from: usize, to: usize) -> bool {
-        match self.latest.get(to).copied() {
-            Some(Some(opens)) => from < opens,
-            _ => false,
-        }
-    }
-
-    /// Whether a stretch that opens at a place or behind it holds another.
-    pub fn opens_from(&self, from: usize, to: usize) -> bool {
-        match self.latest.get(to).copied() {
-            Some(Some(opens)) => from <= opens,
-            _ => false,
-        }
-    }
-
-    /// Whether a stretch that ends before a place holds another.
-    pub fn ends_before(&self, from: usize, to: usize) -> bool {
-        match self.earliest.get(to).copied() {
-            Some(Some(last)) => last < from,
-            _ => false,
-        }
-    }
+    Ok(blocks)
 }

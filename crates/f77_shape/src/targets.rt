@@ -13,7 +13,7 @@ use std::collections::HashMap;
 
 /// Whether a statement is executable: all but PROGRAM, SUBROUTINE, FUNCTION, the specification statements and DATA
 /// (ANSI X3.9-1978, section 7).
-fn is_executable(stmt: &Stmt) -> bool
+pub fn is_executable(stmt: &Stmt) -> bool
     ensures { result ≡ is_executable stmt.now }
 {
     match stmt {
