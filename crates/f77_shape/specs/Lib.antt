@@ -1,0 +1,17 @@
+pub mod Blocks
+pub mod Breaks
+pub mod Counts
+pub mod Jumps
+pub mod Labels
+pub mod Limits
+pub mod NameSets
+pub mod Names
+pub mod Order
+pub mod Places
+pub mod Program
+pub mod Ranges
+pub mod Shape
+pub mod Stretches
+pub mod Tables
+pub mod Targets
+pub mod Units
