@@ -1,3 +1,4 @@
+pub mod Accepted
 pub mod AddLemmas
 pub mod CountLemmas
 pub mod Firsts

@@ -3,6 +3,7 @@ pub mod Breaks
 pub mod Counts
 pub mod Jumps
 pub mod Labels
+pub mod Laws
 pub mod Limits
 pub mod NameSets
 pub mod Names

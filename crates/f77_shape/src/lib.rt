@@ -9,6 +9,7 @@ mod blocks;
 mod breaks;
 mod jumps;
 mod labels;
+pub mod laws;
 mod limits;
 mod names;
 mod order;
