@@ -5,7 +5,7 @@ use f77_ast::expr::{Expr, Op, Part, Ref};
 use f77_ast::initial::{Constant, DataGroup, DataValue, Repeat};
 use f77_ast::name::Name;
 use f77_ast::program::Card;
-use f77_ast::refusal::FrontError;
+use f77_ast::refusal::{FrontError, Refusal};
 use f77_ast::specification::{
     Bound, CommonGroup, Declarator, ImplicitRule, Length, LetterRange, SaveEntry, TypeSpec,
     TypedDeclarator,
@@ -617,23 +617,42 @@ fn show_stmt(one: &Stmt, into: &mut Bytes) -> Result<(), NoMemory> {
     }
 }
 
-/// Shows what a text of line 7 spells, or the line and the code of its refusal.
-fn spelled(alloc: Global, text: &[u8]) -> Result<Bytes, NoMemory> {
+/// Shows the line and the code of a refusal.
+fn show_refusal(refusal: Refusal, into: &mut Bytes) -> Result<(), NoMemory> {
+    print_i64(i64::from(refusal.line), into)?;
+    into.push(b':')?;
+    print_i64(i64::from(refusal.code), into)
+}
+
+/// Shows a statement.
+fn show_kept(one: &Boxed<Stmt>, into: &mut Bytes) -> Result<(), NoMemory> {
+    show_stmt(one.get(), into)
+}
+
+/// The card of a text at line 7.
+fn card_of(alloc: Global, text: &[u8]) -> Result<Card, NoMemory> {
     let mut bytes = Bytes::new(alloc);
     bytes.push_slice(text)?;
-    let card = Card {
+    Ok(Card {
         label: None,
         line: 7,
         text: bytes,
-    };
+    })
+}
+
+/// The statement of a card of a text, on the heap.
+fn kept(alloc: Global, text: &[u8]) -> Result<Boxed<Stmt>, FrontError> {
+    let card = card_of(alloc, text)?;
+    let found = stmt(alloc, &card)?;
+    Ok(Boxed::new(alloc, found)?)
+}
+
+/// Shows what a text of line 7 spells, or the line and the code of its refusal.
+fn spelled(alloc: Global, text: &[u8]) -> Result<Bytes, NoMemory> {
     let mut into = Bytes::new(alloc);
-    match stmt(alloc, &card) {
-        Ok(one) => show_stmt(&one, &mut into)?,
-        Err(FrontError::Refused(refusal)) => {
-            print_i64(i64::from(refusal.line), &mut into)?;
-            into.push(b':')?;
-            print_i64(i64::from(refusal.code), &mut into)?;
-        }
+    match kept(alloc, text) {
+        Ok(one) => show_kept(&one, &mut into)?,
+        Err(FrontError::Refused(refusal)) => show_refusal(refusal, &mut into)?,
         Err(FrontError::NoMemory) => return Err(NoMemory),
     }
     Ok(into)
