@@ -6,8 +6,8 @@ use Rattle.f77_ast.specs.declared.stmt.Stmt as stmt
 use Rattle.f77_meaning.specs.Loops.{terminal_of, distance_to}
 use Rattle.f77_meaning.specs.Process.{is_executable}
 
--- whether a statement may be the terminal statement of a DO-loop: it is executable, and no GO TO, arithmetic IF, block IF,
--- ELSE IF, ELSE, END IF, RETURN, STOP, END or DO (section 11.10)
+-- whether a statement may be the terminal statement of a DO-loop: it is executable, and no unconditional GO TO, arithmetic
+-- IF, block IF, ELSE IF, ELSE, END IF, RETURN, STOP, END or DO (section 11.10)
 abbrev pub may_end_range : Stmt → Bool
 may_end_range (stmt.Goto label) = false
 may_end_range (stmt.ArithmeticIf value negative zeroth positive) = false
