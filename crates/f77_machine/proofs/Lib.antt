@@ -4,5 +4,6 @@ pub mod Chains
 pub mod Counts
 pub mod Entities
 pub mod Halves
+pub mod Items
 pub mod Numbers
 pub mod Steps

@@ -1,8 +1,9 @@
 -- A step, by what stands where the process stands.
-use Rattle.std.proofs.Common.{◌≡◌, ℕ, suc, ◌+◌, ◌<◌, ◌≤◌, ◌^◌, ℤ, Bool, true, false, cond, List, length, Option, Some, refl, sym, ap, subst, ◌∙◌, arith, slice_get}
+use Rattle.std.proofs.Common.{◌≡◌, ℕ, zero, suc, ◌+◌, ◌<◌, ◌≤◌, ◌^◌, ℤ, Bool, true, false, cond, List, [], ◌∷◌, length, Option, Some, refl, sym, ap, subst, ◌∙◌, arith, slice_get}
 use Rattle.std.proofs.lemmas.Option.{get_or_from_slice_get, slice_get_within}
 use Rattle.f77_ast.specs.declared.program.Listed.{Listed}
 use Rattle.f77_ast.specs.declared.program.Program.{Program}
+use Rattle.f77_ast.specs.declared.program.Unit.{Unit as ProgramUnit}
 use Rattle.f77_ast.specs.declared.stmt.Stmt.{Stmt, Do}
 use Rattle.f77_meaning.specs.Event.{Event}
 use Rattle.f77_meaning.specs.Loops.{number_of, statements_before, statements_of, terminal_of}
@@ -12,10 +13,10 @@ use Rattle.f77_meaning.specs.Sound.{IsOf, IsSound}
 use Rattle.f77_meaning.specs.Step.{after_listed, after_statement, event, event_at, increment_event, incremented, onward, resumed_by, statement_event}
 use Rattle.f77_meaning.proofs.Rising.{counted_in}
 use Rattle.f77_meaning.proofs.Room.{fewer_active, no_more_active}
-use Rattle.f77_meaning.proofs.Stands.{IsOf-resumed, of_unit}
+use Rattle.f77_meaning.proofs.Stands.{IsOf-resumed}
 use Rattle.f77_machine.specs.Active.{actives_of}
 use Rattle.f77_machine.specs.Process.{process_of, HasLoopRoom, IsProcessOf}
-use Rattle.f77_machine.specs.Reads.{statement_reads, AllHaveRoom, HasRoom}
+use Rattle.f77_machine.specs.Reads.{statement_reads, AllHaveRoom}
 use Rattle.f77_machine.specs.declared.process.Process.{Process}
 use Rattle.f77_machine.proofs.Actives.{length-actives_of}
 
@@ -70,12 +71,25 @@ loop_room program p listed sound is_of e = by listed.stmt refl
         )
     by _ h = tt
 
+-- a statement stands in a unit
+record StandsIn (units : List ProgramUnit) (u at : ℕ) (listed : Listed) : Type 0 where
+  unit : ProgramUnit
+  entered : slice_get units u ≡ Some unit
+  stands : slice_get unit.listing at ≡ Some listed
+
+stands_in : (units : List ProgramUnit) (u at : ℕ) (listed : Listed) → slice_get (listing_of units u) at ≡ Some listed → StandsIn units u at listed
+stands_in [] u at listed e = absurd (cc)
+stands_in (first ∷ units) zero at listed e = record { unit = first; entered = refl; stands = e }
+stands_in (first ∷ units) (suc u) at listed e =
+    let rest : StandsIn units u at listed = stands_in units u at listed e in
+    record { unit = rest.unit; entered = rest.entered; stands = rest.stands }
+
 -- a statement at which a process stands reads no more than there is room for
-pub reads_fit : (program : Program) (p : Process) (listed : Listed) → IsProcessOf program p → listed_at program (process_of p) ≡ Some listed → statement_reads listed.stmt ≤ p.room
+pub reads_fit : (program : Program) (p : Process) (listed : Listed) → IsProcessOf program p → listed_at program (process_of p) ≡ Some listed → statement_reads program.layout p.unit listed.stmt ≤ p.room
 reads_fit program p listed is_of e =
-    let listing : List Listed = listing_of program.units p.unit in
-    let all : AllHaveRoom listing p.room = of_unit (λ xs. AllHaveRoom xs p.room) program.units p.unit p.at listed is_of.room e in
-    subst (λ l. statement_reads l.stmt ≤ p.room) (get_or_from_slice_get listing p.at listed listed e) (all p.at listed (slice_get_within listing p.at listed e))
+    let here : StandsIn program.units p.unit p.at listed = stands_in program.units p.unit p.at listed e in
+    let all : AllHaveRoom program.layout p.unit here.unit.listing p.room = is_of.room p.unit here.unit here.entered in
+    subst (λ l. statement_reads program.layout p.unit l.stmt ≤ p.room) (get_or_from_slice_get here.unit.listing p.at listed listed here.stands) (all p.at listed (slice_get_within here.unit.listing p.at listed here.stands))
 
 -- it is one of the file, whose statements are counted with 32 bits
 pub number_fits : (program : Program) (p : Process) (listed : Listed) → IsSound program → listed_at program (process_of p) ≡ Some listed → number_of program.units p.unit p.at + 1 < 2 ^ 32

@@ -5,6 +5,7 @@
 
 mod active;
 pub mod answer;
+mod array;
 mod assign;
 mod begin;
 mod chain;

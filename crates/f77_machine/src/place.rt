@@ -24,13 +24,24 @@ pub fn entity<'l>(layout: &'l Layout, unit: u32, name: &Name) -> Option<&'l Enti
 }
 
 /// The first address of an entity that is stored.
-fn start(entity: &Entity) -> u32
+pub fn start(entity: &Entity) -> u32
     ensures { result ≡ start_of entity.now }
 {
     match &entity.place {
         Place::Stored(address) => *address,
         Place::Dummy(_) => 0,
         Place::Constant(_) => 0,
+    }
+}
+
+/// The number of elements of an array, each of one storage unit.
+pub fn elements(entity: &Entity) -> u64
+    ensures { result ≡ units_of entity.now }
+{
+    match entity.bounds.as_slice() {
+        [] => 1,
+        [bound] => upper(bound),
+        [_, _, ..] => 0,
     }
 }
 

@@ -180,7 +180,7 @@ impl Process {
         line: &mut Line,
     ) -> Stepped
         requires storage { IsStorage program.now.layout }
-        requires room { statement_reads stmt.now ≤ self.old.room }
+        requires room { statement_reads program.now.layout self.old.unit stmt.now ≤ self.old.room }
         requires fits { Fits program.now.layout (C.values cells.old) }
         requires allowed { (address : ℕ) → IsTrue (C.may_get cells.old address) }
         requires items { HoldsItems stmt.now (text_of line.old) }
@@ -301,7 +301,7 @@ impl Process {
         line: &mut Line,
     ) -> Stepped
         requires storage { IsStorage program.now.layout }
-        requires room { items_reads items.now ≤ self.old.room }
+        requires room { items_reads program.now.layout self.old.unit items.now ≤ self.old.room }
         requires fits { Fits program.now.layout (C.values cells.old) }
         requires allowed { (address : ℕ) → IsTrue (C.may_get cells.old address) }
         requires items { text_of line.old ≡ [] }

@@ -1,9 +1,12 @@
 //! How many units the statements of a program read at most.
 ghost use Rattle.std.specs.Prelude.{◌≡◌, ◌≤◌, IfSome};
+ghost use Rattle.f77_meaning.specs.Storage.{IsStorage};
 ghost use Rattle.f77_machine.specs.Reads.{reads_in, subscript_reads, item_reads, items_reads, step_reads, control_reads, statement_reads, AllHaveRoom, HasRoom};
 
+use crate::array::array_named;
+use crate::place::elements;
 use f77_ast::expr::{Expr, Ref};
-use f77_ast::program::{Listing, Program};
+use f77_ast::program::{Layout, Listing, Program};
 use f77_ast::stmt::{Item, LoopControl, Stmt};
 
 /// How many units an expression reads at most: none where that passes 64 bits.
@@ -36,23 +39,31 @@ fn subscript_reads(reference: &Ref) -> Option<usize>
     }
 }
 
-/// The same of an item.
-fn item_reads(item: &Item) -> Option<usize>
-    ensures { IfSome result (λ n. n ≡ item_reads item.now) }
+/// One more than the elements that a line has room for.
+const MOST_ELEMENTS: u64 = 5_001;
+
+/// The same of an item: an array's elements are read one by one, until the line is full.
+fn item_reads(layout: &Layout, unit: u32, item: &Item) -> Option<usize>
+    requires storage { IsStorage layout.now }
+    ensures { IfSome result (λ n. n ≡ item_reads layout.now unit item.now) }
 {
     match item {
-        Item::Plain(expr) => reads_in(expr),
+        Item::Plain(expr) => match array_named(layout, unit, expr) {
+            Some(array) => Some(elements(array).min(MOST_ELEMENTS) as usize),
+            None => reads_in(expr),
+        },
         Item::Implied(_, _) => Some(0),
     }
 }
 
 /// The same of items.
-fn items_reads(items: &[Item]) -> Option<usize>
-    ensures { IfSome result (λ n. n ≡ items_reads items.now) }
+fn items_reads(layout: &Layout, unit: u32, items: &[Item]) -> Option<usize>
+    requires storage { IsStorage layout.now }
+    ensures { IfSome result (λ n. n ≡ items_reads layout.now unit items.now) }
 {
     let mut sum: usize = 0;
     for item in items {
-        sum = sum.checked_add(item_reads(item)?)?;
+        sum = sum.checked_add(item_reads(layout, unit, item)?)?;
     }
     Some(sum)
 }
@@ -75,36 +86,41 @@ fn control_reads(control: &LoopControl) -> Option<usize>
     reads_in(&control.first)?.checked_add(after_first)
 }
 
-/// The same of a statement.
-fn statement_reads(stmt: &Stmt) -> Option<usize>
-    ensures { IfSome result (λ n. n ≡ statement_reads stmt.now) }
+/// The same of a statement of a unit.
+fn statement_reads(layout: &Layout, unit: u32, stmt: &Stmt) -> Option<usize>
+    requires storage { IsStorage layout.now }
+    ensures { IfSome result (λ n. n ≡ statement_reads layout.now unit stmt.now) }
 {
     match stmt {
         Stmt::Assign { target, value } => subscript_reads(target)?.checked_add(reads_in(value)?),
         Stmt::Do { control, .. } => control_reads(control),
-        Stmt::Print(items) => items_reads(items.as_slice()),
+        Stmt::Print(items) => items_reads(layout, unit, items.as_slice()),
         _ => Some(0),
     }
 }
 
-/// The most that a statement of some statements reads.
-fn most_in(listing: &Listing) -> Option<usize>
-    ensures { IfSome result (λ room. AllHaveRoom listing.now room) }
+/// The most that a statement of some statements of a unit reads.
+fn most_in(layout: &Layout, unit: u32, listing: &Listing) -> Option<usize>
+    requires storage { IsStorage layout.now }
+    ensures { IfSome result (λ room. AllHaveRoom layout.now unit listing.now room) }
 {
     let mut most = 0;
     for listed in listing.as_slice() {
-        most = most.max(statement_reads(&listed.stmt)?);
+        most = most.max(statement_reads(layout, unit, &listed.stmt)?);
     }
     Some(most)
 }
 
 /// Room for the units that any statement of a program reads: none where that passes 64 bits.
 pub fn room_for(program: &Program) -> Option<usize>
+    requires storage { IsStorage program.now.layout }
     ensures { IfSome result (HasRoom program.now) }
 {
     let mut most = 0;
+    let mut number: u32 = 0;
     for unit in program.units.as_slice() {
-        most = most.max(most_in(&unit.listing)?);
+        most = most.max(most_in(&program.layout, number, &unit.listing)?);
+        number = number.checked_add(1)?;
     }
     Some(most)
 }

@@ -8,4 +8,4 @@ use Rattle.f77_machine.proofs.print.print_items.Given as goal
 abbrev pub invariant-loop-item : goal.invariant-loop-item
 invariant-loop-item l =
     (items_of l.layout l.unit (drop l.item-index l.items) (text_of l.line) l.left ≡ items_of l.layout l.unit l.items (text_of l.initial.line) l.answers)
-    × (length l.answers + items_reads (drop l.item-index l.items) ≤ length l.left + items_reads l.items)
+    × (length l.answers + items_reads l.layout l.unit (drop l.item-index l.items) ≤ length l.left + items_reads l.layout l.unit l.items)

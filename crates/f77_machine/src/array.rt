@@ -1,0 +1,51 @@
+//! An array's name without subscripts (ANSI X3.9-1978, section 5.6).
+ghost use Rattle.std.specs.Prelude.{◌≡◌, ◌+◌, ◌≤◌, ◌^◌, IfSome, length};
+ghost use Rattle.std.specs.Option.{option_copied};
+ghost use Rattle.f77_meaning.specs.Arrays.{array_named, array_of_ref, if_array};
+ghost use Rattle.f77_meaning.specs.Storage.{IsStorage, LiesIn};
+
+use crate::place::entity;
+use f77_ast::expr::{Expr, Ref};
+use f77_ast::program::{Entity, Layout};
+
+/// The array of a unit that an expression names as a whole: its name stands alone.
+pub fn array_named<'l>(layout: &'l Layout, unit: u32, expr: &Expr) -> Option<&'l Entity>
+    requires storage { IsStorage layout.now }
+    ensures named { option_copied result ≡ array_named layout.now unit expr.now }
+    ensures lies { IfSome result (λ e. LiesIn (length layout.now.first) e.now) }
+{
+    match expr {
+        Expr::Int(_) => None,
+        Expr::Truth(_) => None,
+        Expr::Chars(_) => None,
+        Expr::Ref(reference) => array_of_ref(layout, unit, reference),
+        Expr::Unary(_, _) => None,
+        Expr::Binary(_, _, _) => None,
+        Expr::Paren(_) => None,
+    }
+}
+
+/// The same of a reference: neither subscripts nor a substring follow the name.
+fn array_of_ref<'l>(layout: &'l Layout, unit: u32, reference: &Ref) -> Option<&'l Entity>
+    requires storage { IsStorage layout.now }
+    ensures named { option_copied result ≡ array_of_ref layout.now unit reference.now }
+    ensures lies { IfSome result (λ e. LiesIn (length layout.now.first) e.now) }
+{
+    if reference.args.is_some() || reference.part.is_some() {
+        return None;
+    }
+    let found = entity(layout, unit, &reference.name)?;
+    if_array(found)
+}
+
+/// An entity that is an array of one dimension.
+fn if_array(found: &Entity) -> Option<&Entity>
+    ensures array { option_copied result ≡ if_array (Some found.now) }
+    ensures same { IfSome result (λ e. e.now ≡ found.now) }
+{
+    if found.bounds.len() == 1 {
+        Some(found)
+    } else {
+        None
+    }
+}
