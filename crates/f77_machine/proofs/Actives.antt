@@ -1,7 +1,6 @@
 -- Active loops, the innermost one first.
-use Rattle.std.proofs.Common.{◌≡◌, ℕ, List, [], ◌∷◌, ◌++◌, length, map, reverse, ap, ◌∙◌}
+use Rattle.std.proofs.Common.{◌≡◌, List, [], ◌∷◌, ◌++◌, length, map, reverse, ap, ◌∙◌}
 use Rattle.std.proofs.lemmas.List.{length-map, length-reverse, map-append, reverse-append}
-use Rattle.f77_meaning.specs.Process as meaning
 use Rattle.f77_machine.specs.Active.{active_of, actives_of}
 use Rattle.f77_machine.specs.declared.active.ActiveLoop.{ActiveLoop}
 

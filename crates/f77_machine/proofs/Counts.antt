@@ -1,8 +1,8 @@
 -- Numbers of a DO-loop in 128 bits.
-use Rattle.std.proofs.Common.{◌≡◌, ◌≢◌, ℕ, zero, suc, ◌+◌, ◌*◌, ◌<◌, ◌≤◌, ◌^◌, ℤ, pos, negsuc, ◌+ℤ◌, ◌*ℤ◌, ◌≤ℤ◌, refl, sym, ◌∙◌, ap, subst, arith, w64, FitsSigned, IsTrue, ◌⊎◌, inl, inr}
-use Rattle.std.specs.Prelude.{unsigned_abs, int_div, neg_ℤ}
+use Rattle.std.proofs.Common.{◌≡◌, ℕ, suc, ◌*◌, ◌<◌, ◌≤◌, ℤ, pos, negsuc, ◌+ℤ◌, ◌*ℤ◌, ◌≤ℤ◌, ◌∙◌, ap, arith, w64, FitsSigned, IsTrue, ◌⊎◌, inl, inr}
+use Rattle.std.specs.Prelude.{unsigned_abs, neg_ℤ}
 use Rattle.std.specs.Int.{int_wrap}
-use Rattle.std.proofs.lemmas.Int.{ints, fits_signed_from_abs, unsigned_abs-mul, int_wrap-add_right, int_wrap_fits}
+use Rattle.std.proofs.lemmas.Int.{ints, int_wrap-add_right, int_wrap_fits}
 use Rattle.std.proofs.Math.Nat.{mul-le-mul_right}
 use Rattle.f77_meaning.specs.Do.{has_64_bits, value_after}
 

@@ -1,12 +1,10 @@
 -- Where the entities of a layout lie, and what references to them are.
-use Rattle.std.proofs.Common.{◌≡◌, ℕ, suc, ◌≤◌, ℤ, Bool, true, false, cond, List, [], ◌∷◌, length, map, All, Option, Some, ap, subst, find, arith}
+use Rattle.std.proofs.Common.{◌≡◌, ◌≤◌, ℤ, List, [], ◌∷◌, length, map, Option, Some, ap, arith}
 use Rattle.std.specs.Option.{option_map}
-use Rattle.f77_ast.specs.Entity.{entity_in, is_called}
 use Rattle.f77_ast.specs.declared.program.Entity.{Entity}
 use Rattle.f77_ast.specs.declared.expr.Expr.{Expr}
 use Rattle.f77_ast.specs.declared.refusal.Fault.TheVariants.{Subscript}
 use Rattle.f77_meaning.specs.Demand.{Evaluation, fails, located}
-use Rattle.f77_meaning.specs.Storage.{LiesIn}
 
 -- no reference with two subscripts or more has a meaning yet
 pub many_subscripts : (evaluation : Expr → Evaluation) (entity : Entity) (xs : List Expr) (args : Option (List Expr)) (answers : List ℤ) → args ≡ Some xs → 2 ≤ length xs → located (Some entity) (option_map (map evaluation) args) answers ≡ fails Subscript

@@ -1,7 +1,7 @@
 -- Items of a line of PRINT.
-use Rattle.std.proofs.Common.{◌≡◌, ℕ, suc, ◌+◌, ◌-◌, ◌<◌, ◌≤◌, ℤ, pos, negsuc, Bool, true, false, List, [], ◌∷◌, ◌++◌, length, refl, sym, subst, ap, ◌∙◌, arith, w64, FitsSigned, length-append}
+use Rattle.std.proofs.Common.{◌≡◌, ℕ, suc, ◌+◌, ◌-◌, ◌<◌, ◌≤◌, ℤ, pos, negsuc, Bool, true, false, List, ◌∷◌, ◌++◌, length, refl, sym, subst, ap, ◌∙◌, arith, w64, FitsSigned, length-append}
 use Rattle.std.specs.Prelude.{nat_le}
-use Rattle.hyb_base.specs.Decimal.{decimal_of, AreDigitsOf, IsTextOf}
+use Rattle.hyb_base.specs.Decimal.{decimal_of, IsTextOf}
 use Rattle.hyb_base.proofs.Decimals.{reads_back}
 use Rattle.f77_meaning.specs.Demand.{Demand, and_then, taken}
 use Rattle.f77_meaning.specs.Print.{line_limit, units_from, with_value}

@@ -1,12 +1,12 @@
 -- A step, by what stands where the process stands.
-use Rattle.std.proofs.Common.{◌≡◌, ℕ, zero, suc, ◌+◌, ◌<◌, ◌≤◌, ◌^◌, ℤ, Bool, true, false, cond, List, [], ◌∷◌, length, Option, Some, refl, sym, ap, subst, ◌∙◌, arith, slice_get}
+use Rattle.std.proofs.Common.{◌≡◌, ℕ, zero, suc, ◌+◌, ◌<◌, ◌≤◌, ◌^◌, ℤ, true, false, cond, List, [], ◌∷◌, length, Some, refl, ap, subst, ◌∙◌, arith, slice_get}
 use Rattle.std.proofs.lemmas.Option.{get_or_from_slice_get, slice_get_within}
 use Rattle.f77_ast.specs.declared.program.Listed.{Listed}
 use Rattle.f77_ast.specs.declared.program.Program.{Program}
 use Rattle.f77_ast.specs.declared.program.Unit.{Unit as ProgramUnit}
 use Rattle.f77_ast.specs.declared.stmt.Stmt.{Stmt, Do}
 use Rattle.f77_meaning.specs.Event.{Event}
-use Rattle.f77_meaning.specs.Loops.{number_of, statements_before, statements_of, terminal_of}
+use Rattle.f77_meaning.specs.Loops.{number_of, terminal_of}
 use Rattle.f77_meaning.specs.Process as meaning
 use Rattle.f77_meaning.specs.Process.{listed_at, listing_of}
 use Rattle.f77_meaning.specs.Sound.{IsOf, IsSound}

@@ -1,4 +1,4 @@
-use Rattle.std.proofs.Common.{ℤ, subst, sym, ap, ◌≤◌, ◌∙◌, length, []}
+use Rattle.std.proofs.Common.{ℤ, subst, sym, ap, ◌≤◌, length, []}
 use Rattle.f77_meaning.specs.Event.{Event}
 use Rattle.f77_meaning.specs.Next.{answer_of}
 use Rattle.f77_meaning.specs.Process as meaning
