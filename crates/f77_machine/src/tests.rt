@@ -1,6 +1,7 @@
 //! Tests of what no clause says: that calls succeed with ample memory, and worked examples with values found by hand.
 ghost use Rattle.std.specs.Prelude.{◌≡◌, IfOk, IsTrue, length};
 ghost use Rattle.f77_ast.specs.declared.program.Layout.{Layout};
+ghost use Rattle.f77_ast.specs.declared.program.Place.TheVariants.{Stored};
 ghost use Rattle.f77_meaning.specs.Sound.{IsSound, items_resolve};
 ghost use Rattle.f77_meaning.specs.Storage.{IsStorage};
 
@@ -8,13 +9,19 @@ use crate::answer::Answer;
 use crate::demand::demand;
 use crate::input::Input;
 use crate::line::Line;
+use crate::place::elements;
+use crate::print::print_line;
 use crate::process::Process;
 use crate::store::Store;
 use f77_ast::code::Code;
 use f77_ast::entities::Entities;
-use f77_ast::expr::{Expr, Op};
-use f77_ast::program::{Card, Layout, Listed, Listing, Loops, Program, Regions, Unit, Units};
+use f77_ast::expr::{Expr, Kind, Op, Ref};
+use f77_ast::name::Name;
+use f77_ast::program::{
+    Bounds, Card, Entity, Layout, Listed, Listing, Loops, Place, Program, Regions, Unit, Units,
+};
 use f77_ast::refusal::Fault;
+use f77_ast::specification::Bound;
 use f77_ast::step::Stepped;
 use f77_ast::stmt::{Item, Stmt};
 use hyb_base::bytes::Bytes;
@@ -88,6 +95,10 @@ fn operators(rt: HostRuntime) -> Result<(), Fail> {
         (Op::Pow, 2, 10, Ok(1024)),
         (Op::Pow, -1, -3, Ok(-1)),
         (Op::Pow, 0, -1, zero),
+        (Op::Pow, 0, 0, Ok(1)),
+        (Op::Pow, 2, -1, Ok(0)),
+        (Op::Pow, 3, 41, Ok(-420_491_770_248_316_829)),
+        (Op::Pow, 3, i64::MAX, Ok(-6_148_914_691_236_517_205)),
     ];
     let layout = a_layout(rt.alloc(), 0, 0)?;
     for (op, x, y, want) in rows {
@@ -155,6 +166,146 @@ fn lines_are_printed(rt: HostRuntime) -> Result<(), Fail> {
         assert_eq!(rt; text.len(), length, "{count}");
     }
     Ok(())
+}
+
+#[test]
+fn arrays_are_printed(rt: HostRuntime) -> Result<(), Fail> {
+    // PRINT *, A, A(2): the values read so far, the unit that is read next, and the line.
+    let rows: [(&[i64], Option<u32>, &[u8]); 4] = [
+        (&[], Some(1), b""),
+        (&[10], Some(2), b" 10"),
+        (&[10, -20], Some(2), b" 10 -20"),
+        (&[10, -20, -20], None, b" 10 -20 -20"),
+    ];
+    let layout = an_array(rt.alloc(), 2)?;
+    let mut items = Items::new(rt.alloc());
+    items.push(Item::Plain(the_array(None)?))?;
+    items.push(Item::Plain(the_array(Some(one(rt.alloc(), 2)?))?))?;
+    for (answers, unit, text) in rows {
+        let mut line = Line::new(rt.alloc())?;
+        let answer = print_line(&layout, 0, items.as_slice(), &mut line, answers);
+        assert_eq!(rt; asked(answer), Ok(unit));
+        assert_eq!(rt; line.text(), text);
+    }
+    Ok(())
+}
+
+#[test]
+fn arrays_fill_a_line(rt: HostRuntime) -> Result<(), Fail> {
+    // The array's length, the number of values read so far, what is asked next, and the bytes of the line: two for
+    // each element.
+    let rows = [
+        (0, 0, Ok(None), 1),
+        (5_000, 5_000, Ok(None), 10_000),
+        (5_001, 5_000, Ok(Some(5_001)), 10_000),
+        (5_001, 5_001, Err(Fault::LineLimit), 10_000),
+    ];
+    for (length, known, want, bytes) in rows {
+        let layout = an_array(rt.alloc(), length)?;
+        let mut items = Items::new(rt.alloc());
+        items.push(Item::Plain(the_array(None)?))?;
+        let answers = zeros(rt.alloc(), known)?;
+        let mut line = Line::new(rt.alloc())?;
+        let answer = print_line(&layout, 0, items.as_slice(), &mut line, answers.as_slice());
+        assert_eq!(rt; asked(answer), want, "{length} {known}");
+        assert_eq!(rt; line.text().len(), bytes, "{length} {known}");
+    }
+    Ok(())
+}
+
+#[test]
+fn parentheses_hide_an_array(rt: HostRuntime) -> Result<(), Fail> {
+    let layout = an_array(rt.alloc(), 2)?;
+    let inner = Expr::Paren(Boxed::new(rt.alloc(), the_array(None)?)?);
+    assert_eq!(rt; value_of(&layout, &inner), Err(Some(Fault::Subscript)));
+    let mut items = Items::new(rt.alloc());
+    items.push(Item::Plain(inner))?;
+    let mut line = Line::new(rt.alloc())?;
+    let answer = print_line(&layout, 0, items.as_slice(), &mut line, &[]);
+    assert_eq!(rt; asked(answer), Err(Fault::Subscript));
+    Ok(())
+}
+
+/// The unit that is read next, or a fault.
+fn asked<'a>(answer: Answer<'a, ()>) -> Result<Option<u32>, Fault> {
+    match answer {
+        Answer::Gives((), _) => Ok(None),
+        Answer::Wants(address) => Ok(Some(address)),
+        Answer::Fails(fault) => Err(fault),
+    }
+}
+
+/// A, or its element of a subscript.
+fn the_array(args: Option<Items<Expr>>) -> Result<Expr, Fail> {
+    Ok(Expr::Ref(Ref {
+        name: the_name()?,
+        args,
+        part: None,
+    }))
+}
+
+fn the_name() -> Result<Name, Fail> {
+    match Name::new(b"A") {
+        Some(name) => Ok(name),
+        None => Err(Fail::from("A is no name")),
+    }
+}
+
+/// A list of one number.
+fn one(alloc: Global, number: i64) -> Result<Items<Expr>, Fail> {
+    let mut numbers = Items::new(alloc);
+    numbers.push(Expr::Int(number))?;
+    Ok(numbers)
+}
+
+/// So many zeros.
+fn zeros(alloc: Global, count: u64) -> Result<Nums, NoMemory>
+    ensures { IfOk result (λ zeros. length zeros ≡ count) }
+{
+    let mut zeros = Nums::new(alloc);
+    for _ in 0..count {
+        zeros.push(0)?;
+    }
+    Ok(zeros)
+}
+
+/// An array A of one dimension, which begins at address 1.
+fn an_entity(alloc: Global, upper: i64) -> Result<Entity, Fail>
+    ensures { IfOk result (λ entity. entity.place ≡ Stored 1) }
+{
+    let mut bounds = Bounds::new(alloc);
+    bounds.push(Bound {
+        low: None,
+        high: Some(Expr::Int(upper)),
+    })?;
+    Ok(Entity {
+        unit: 0,
+        name: the_name()?,
+        kind: Kind::Integer,
+        len: 1,
+        bounds,
+        place: Place::Stored(1),
+    })
+}
+
+/// Storage of one unit and of an array A behind it, whose upper bound this is.
+fn an_array(alloc: Global, upper: i64) -> Result<Layout, Fail>
+    ensures { IfOk result IsStorage }
+{
+    let array = an_entity(alloc, upper)?;
+    let units = elements(&array);
+    if units > 10_000 {
+        return Err(Fail::from("the array is too long"));
+    }
+    let first = zeros(alloc, units + 1)?;
+    let mut entities = Entities::new(alloc);
+    entities.push(array)?;
+    Ok(Layout {
+        regions: Regions::new(alloc),
+        entities,
+        total: units as u32 + 1,
+        first,
+    })
 }
 
 /// What the first step of a program that prints these items answers, and the line after it.
