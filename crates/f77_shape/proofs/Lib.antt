@@ -1,0 +1,7 @@
+pub mod Accepted
+pub mod AddLemmas
+pub mod CountLemmas
+pub mod Firsts
+pub mod NameLemmas
+pub mod RuleLemmas
+pub mod UnitLemmas
