@@ -1,5 +1,5 @@
 -- What every accepted file satisfies.
-use Rattle.std.proofs.Common.{◌≡◌, ◌≢◌, ℕ, zero, suc, ◌+◌, ◌-◌, ◌<◌, ◌≤◌, Bool, true, false, not, ◌&&◌, ◌||◌, nat_lt, List, [], ◌∷◌, ◌++◌, map, length, drop, Option, None, Some, Ok, Err, if◌then◌else◌, refl, sym, ap, ◌∙◌, subst, arith, slice_get, append-nil, add-one, IsTrue}
+use Rattle.std.proofs.Common.{◌≡◌, ◌≢◌, ℕ, zero, suc, ◌+◌, ◌-◌, ◌<◌, ◌≤◌, Bool, true, false, not, ◌&&◌, ◌||◌, nat_lt, List, [], ◌∷◌, ◌++◌, map, length, drop, Option, None, Some, Ok, Err, if◌then◌else◌, refl, sym, ap, ◌∙◌, subst, arith, slice_get, append-nil, length-append, add-one, IsTrue}
 use Rattle.std.proofs.lemmas.Bool.Decides.{nat_tests}
 use Rattle.std.proofs.lemmas.List.Elements.{All-cons}
 use Rattle.std.specs.Prelude.{All}
@@ -9,7 +9,7 @@ use Rattle.f77_ast.specs.declared.program.Listed.{Listed}
 use Rattle.f77_ast.specs.declared.program.Unit.{Unit as ProgramUnit}
 use Rattle.f77_ast.specs.declared.refusal.Refusal.{Refusal}
 use Rattle.f77_cards.specs.Cards.{when, first_of}
-use Rattle.f77_meaning.specs.Loops.{terminal_of, has_label, distance_to}
+use Rattle.f77_meaning.specs.Loops.{terminal_of, has_label, distance_to, statements_of}
 use Rattle.f77_meaning.specs.Ranges.{may_end_range, IsDo, terminal_at, HasRange, RangesNest}
 use Rattle.f77_shape.specs.declared.stretches.Stretch.{Stretch}
 use Rattle.f77_shape.specs.Blocks.{breaks_if, is_unended}
@@ -31,31 +31,31 @@ none_broken : (rs : List Refusal) → first_of rs ≡ None → rs ≡ []
 none_broken [] e = refl
 none_broken (r ∷ rs) e = absurd cc
 
-left_none : {A : Type 0} (xs ys : List A) → xs ++ ys ≡ [] → xs ≡ []
+pub left_none : {A : Type 0} (xs ys : List A) → xs ++ ys ≡ [] → xs ≡ []
 left_none [] ys e = refl
 left_none (x ∷ xs) ys e = absurd cc
 
-right_none : {A : Type 0} (xs ys : List A) → xs ++ ys ≡ [] → ys ≡ []
+pub right_none : {A : Type 0} (xs ys : List A) → xs ++ ys ≡ [] → ys ≡ []
 right_none [] ys e = e
 right_none (x ∷ xs) ys e = absurd cc
 
 -- an accepted file has nothing that is broken, and its units
-record Nothing (statements : List Listed) (units : List ProgramUnit) : Type 0 where
-  none : breaks_of statements ≡ []
-  made : units_of statements ≡ units
+pub record Nothing (statements : List Listed) (units : List ProgramUnit) : Type 0 where
+  pub none : breaks_of statements ≡ []
+  pub made : units_of statements ≡ units
 
 accepted_by : (o : Option Refusal) (all units : List ProgramUnit) → unless_refused o all ≡ Ok units → (o ≡ None) × (all ≡ units)
 accepted_by None all units e = (refl, cc)
 accepted_by (Some r) all units e = absurd cc
 
-nothing_broken : (statements : List Listed) (units : List ProgramUnit) → shape_of statements ≡ Ok units → Nothing statements units
+pub nothing_broken : (statements : List Listed) (units : List ProgramUnit) → shape_of statements ≡ Ok units → Nothing statements units
 nothing_broken statements units e =
     let both = accepted_by (first_of (breaks_of statements)) (units_of statements) units e in
     record { none = none_broken (breaks_of statements) both.0; made = both.1 }
 
 -- ---- a rule that no statement breaks
 
-kept_when : (b : Bool) (r : Refusal) → when b r ≡ [] → b ≡ false
+pub kept_when : (b : Bool) (r : Refusal) → when b r ≡ [] → b ≡ false
 kept_when true r e = absurd cc
 kept_when false r e = refl
 
@@ -260,7 +260,7 @@ no_statement None e = refl
 no_statement (Some x) e = absurd cc
 
 -- a unit of a file has a statement
-abbrev HasStatement : ProgramUnit → Type 0
+abbrev pub HasStatement : ProgramUnit → Type 0
 HasStatement unit = unit.listing ≢ []
 
 no_unit : (o : Option ProgramUnit) → unit_over o ≡ [] → ((u : ProgramUnit) → o ≡ Some u → HasStatement u) → o ≡ None
@@ -271,7 +271,7 @@ no_unit (Some u) e h = by u.listing e (h u refl)
     by [] e k = absurd (k refl)
     by (x ∷ l) e k = absurd cc
 
-have_statements : (statements : List Listed) (k : ℕ) (u : List Listed) → slice_get (cut statements) k ≡ Some u → u ≢ []
+pub have_statements : (statements : List Listed) (k : ℕ) (u : List Listed) → slice_get (cut statements) k ≡ Some u → u ≢ []
 have_statements [] k u e = absurd cc
 have_statements (x ∷ statements) k u e = by (is_end x.stmt) (cut statements) k e (have_statements statements)
   where
@@ -286,10 +286,18 @@ have_statements (x ∷ statements) k u e = by (is_end x.stmt) (cut statements) k
     by false (unit ∷ units) zero e rest = nonempty x unit e
     by false (unit ∷ units) (suc k) e rest = rest (suc k) u e
 
-mapped : (units : List (List Listed)) (k : ℕ) (u : ProgramUnit) → slice_get (map unit_of units) k ≡ Some u → (l : List Listed) × (slice_get units k ≡ Some l) × (u ≡ unit_of l)
+pub mapped : (units : List (List Listed)) (k : ℕ) (u : ProgramUnit) → slice_get (map unit_of units) k ≡ Some u → (l : List Listed) × (slice_get units k ≡ Some l) × (u ≡ unit_of l)
 mapped [] k u e = absurd cc
 mapped (l ∷ units) zero u e = (l, refl, cc)
 mapped (l ∷ units) (suc k) u e = mapped units k u e
+
+-- the statements of some units, counted
+counted_in : (units : List ProgramUnit) → statements_of units ≡ length (flat_map (λ unit. unit.listing) units)
+counted_in [] = refl
+counted_in (unit ∷ units) =
+    let rest = counted_in units in
+    let both = length-append unit.listing (flat_map (λ unit. unit.listing) units) in
+    omega (arith, rest, both)
 
 pub files_are_small : AcceptedFilesAreSmall
 files_are_small statements units e =
@@ -301,8 +309,10 @@ files_are_small statements units e =
     let two : main_breaks us ++ unit_breaks us ≡ [] = left_none (main_breaks us ++ unit_breaks us) (name_breaks 0 us) three in
     let of_units : unit_breaks us ≡ [] = right_none (main_breaks us) (unit_breaks us) two in
     let few : length us ≤ 200 = past_end us 200 (no_unit (slice_get us 200) of_units (λ u f. let m = mapped (cut statements) 200 u f in λ none. have_statements statements 200 m.0 m.1 (ap (λ (w : ProgramUnit). w.listing) (sym m.2) ∙ none))) in
+    let all : flat_map (λ unit. unit.listing) units ≡ statements = ap (λ (l : List ProgramUnit). flat_map (λ unit. unit.listing) l) (sym n.made) ∙ joined statements in
     record {
-      all = ap (λ (l : List ProgramUnit). flat_map (λ unit. unit.listing) l) (sym n.made) ∙ joined statements;
+      all = all;
+      counted = counted_in units ∙ ap length all;
       few_statements = past_end statements 10000 (no_statement (slice_get statements 10000) (right_none (end_breaks statements) (statement_breaks statements) front));
       few_units = subst (λ (l : List ProgramUnit). length l ≤ 200) n.made few;
     }

@@ -1,4 +1,5 @@
 pub mod Accepted
+pub mod AcceptedUnits
 pub mod AddLemmas
 pub mod CountLemmas
 pub mod Firsts

@@ -17,7 +17,8 @@ may_end (Some terminal) = may_end_range terminal.stmt
 abbrev pub crosses : (outer inner : Stretch) → Bool
 crosses outer inner = holds outer inner.opens && nat_lt outer.last inner.last
 
--- DO ranges nest; several may share a terminal statement. Where two ranges cross, both DO statements break the rule
+-- DO ranges nest; several may share a terminal statement. Where two ranges cross, both DO statements break the rule, also
+-- where a terminal statement is of a kind that may end no range
 abbrev pub crosses_a_range : (unit : List Listed) → Stretch → Bool
 crosses_a_range unit range = list_any (λ other. crosses range other || crosses other range) (ranges_of unit)
 

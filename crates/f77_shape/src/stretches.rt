@@ -4,7 +4,7 @@ ghost use Rattle.std.specs.List.{list_any};
 ghost use Rattle.std.specs.Option.{option_to_list, option_and_then};
 ghost use Rattle.f77_ast.specs.declared.program.Listed.{Listed};
 ghost use Rattle.f77_meaning.specs.Loops.{terminal_of};
-ghost use Rattle.f77_shape.specs.Blocks.{opens_block, parts_before};
+ghost use Rattle.f77_shape.specs.Blocks.{ends_block, parts_behind};
 ghost use Rattle.f77_shape.specs.Stretches.{holds, range_to, ranges_of, block_before, blocks_of};
 ghost use Rattle.f77_shape.specs.Targets.{place_of, AreTargets};
 
@@ -87,81 +87,78 @@ pub fn ranges_of(
     Ok(ranges)
 }
 
-/// Whether a statement opens an IF block.
-fn opens_block(stmt: &Stmt) -> bool
-    ensures { result ≡ opens_block stmt.now }
+/// Whether a statement ends the IF block before it: ELSE IF, ELSE or END IF.
+fn ends_block(stmt: &Stmt) -> bool
+    ensures { result ≡ ends_block stmt.now }
 {
     match stmt {
-        Stmt::BlockIf(_) => true,
         Stmt::ElseIf(_) => true,
         Stmt::Else => true,
+        Stmt::EndIf => true,
         _ => false,
     }
 }
 
-/// Goes back by a statement, where these are the next parts of the open IFs, the innermost one's last.
-fn step_back(parts: &mut Vec<usize>, place: usize, stmt: &Stmt) -> Result<(), NoMemory>
-    ensures { OnOk result (reverse parts.new.items ≡ parts_before stmt.now place (reverse parts.old.items)) }
+/// The block that ends before a statement, where these are the places of the last parts of the open IFs, the innermost
+/// one's last.
+fn block_before(stmt: &Stmt, place: usize, parts: &Vec<usize>) -> Option<Stretch>
+    ensures { result ≡ block_before stmt.now place (reverse parts.now.items) }
+{
+    match parts.last() {
+        None => None,
+        Some(part) => {
+            if ends_block(stmt) {
+                Some(Stretch {
+                    opens: *part,
+                    last: place.saturating_sub(1),
+                })
+            } else {
+                None
+            }
+        }
+    }
+}
+
+/// Goes on behind a statement, where these are the places of the last parts of the open IFs, the innermost one's last.
+fn go_on(parts: &mut Vec<usize>, place: usize, stmt: &Stmt) -> Result<(), NoMemory>
+    ensures { OnOk result (reverse parts.new.items ≡ parts_behind stmt.now place (reverse parts.old.items)) }
 {
     match stmt {
-        Stmt::EndIf => {
-            parts.push(place)?;
-            Ok(())
-        }
-        Stmt::Else => {
-            let _next = parts.pop();
-            parts.push(place)?;
-            Ok(())
-        }
-        Stmt::ElseIf(_) => {
-            let _next = parts.pop();
-            parts.push(place)?;
-            Ok(())
-        }
         Stmt::BlockIf(_) => {
-            let _next = parts.pop();
+            parts.push(place)?;
+            Ok(())
+        }
+        Stmt::ElseIf(_) => match parts.pop() {
+            None => Ok(()),
+            Some(_before) => {
+                parts.push(place)?;
+                Ok(())
+            }
+        },
+        Stmt::Else => match parts.pop() {
+            None => Ok(()),
+            Some(_before) => {
+                parts.push(place)?;
+                Ok(())
+            }
+        },
+        Stmt::EndIf => {
+            let _closed = parts.pop();
             Ok(())
         }
         _ => Ok(()),
     }
 }
 
-/// The block from a place to the next part of the innermost open IF.
-fn block_before(place: usize, parts: &Vec<usize>) -> Option<Stretch>
-    ensures { result ≡ block_before place (reverse parts.now.items) }
-{
-    match parts.last() {
-        None => None,
-        Some(part) => Some(Stretch {
-            opens: place,
-            last: part.saturating_sub(1),
-        }),
-    }
-}
-
-/// The block that a statement opens.
-fn block_at(place: usize, stmt: &Stmt, parts: &Vec<usize>) -> Option<Stretch>
-    ensures { result ≡ (if opens_block stmt.now then block_before place (reverse parts.now.items) else None) }
-{
-    if opens_block(stmt) {
-        block_before(place, parts)
-    } else {
-        None
-    }
-}
-
-/// The IF blocks of a unit, the last one first.
+/// The IF blocks of a unit, in the order in which they end.
 pub fn blocks_of(alloc: Global, unit: &[Listed]) -> Result<Vec<Stretch>, NoMemory>
     ensures { IfOk result (λ blocks. blocks.items ≡ blocks_of unit.now) }
 {
     let mut blocks = Vec::new(alloc);
     let mut parts: Vec<usize> = Vec::new(alloc);
-    let mut place = unit.len();
-    while place > 0 {
-        place -= 1;
-        let stmt = &unit[place].stmt;
-        add(&mut blocks, block_at(place, stmt, &parts))?;
-        step_back(&mut parts, place, stmt)?;
+    for (place, listed) in unit.iter().enumerate() {
+        add(&mut blocks, block_before(&listed.stmt, place, &parts))?;
+        go_on(&mut parts, place, &listed.stmt)?;
     }
     Ok(blocks)
 }

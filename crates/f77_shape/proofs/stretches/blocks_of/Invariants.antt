@@ -1,14 +1,6 @@
-use Rattle.std.proofs.Common.{◌≡◌, ◌≤◌, length, drop, reverse}
-use Rattle.f77_shape.specs.Blocks.{next_parts}
-use Rattle.f77_shape.specs.Stretches.{blocks_from}
+use Rattle.std.proofs.Common.{◌≡◌, ◌++◌, drop, reverse}
+use Rattle.f77_shape.specs.Stretches.{blocks_from, blocks_of}
 use Rattle.f77_shape.proofs.stretches.blocks_of.Given as goal
 
 abbrev pub invariant-loop-place : goal.invariant-loop-place
-invariant-loop-place l = record {
-  within : l.place ≤ length l.unit;
-  blocks : l.blocks.items ≡ blocks_from l.place (drop l.place l.unit);
-  parts : reverse l.parts.items ≡ next_parts l.place (drop l.place l.unit);
-}
-
-abbrev pub decreases-loop-place : goal.decreases-loop-place
-decreases-loop-place l = l.place
+invariant-loop-place l = l.blocks.items ++ blocks_from (reverse l.parts.items) l.place (drop l.place l.unit) ≡ blocks_of l.unit
