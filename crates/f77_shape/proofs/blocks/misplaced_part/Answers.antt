@@ -1,0 +1,20 @@
+use Rattle.std.proofs.Common.{sym, ap, ◌∙◌}
+use Rattle.f77_shape.specs.Blocks.{breaks_if, is_misplaced, opened_by}
+use Rattle.f77_shape.proofs.Firsts.{turned, first_from}
+use Rattle.f77_shape.proofs.RuleLemmas.{open_more}
+use Rattle.f77_shape.proofs.blocks.misplaced_part.Goals as goal
+
+pub loop-listed-preserved : goal.loop-listed-preserved
+loop-listed-preserved c =
+    let unit = c.args.unit.now in
+    let place = c.loop-listed.listed-index in
+    let listed = c.listed-item.result in
+    record {
+      first = turned 53 (breaks_if unit) unit place listed c.loop-listed.first (first_from 53 (breaks_if unit) unit 0) c.when.result c.sooner-first.result c.is_misplaced-breaks.result c.loop-listed-test.true c.listed-item.is c.sooner-first.ensures c.when.ensures
+          (c.is_misplaced-breaks.ensures ∙ ap (λ ifs. is_misplaced ifs listed.stmt) c.loop-listed.invariant.ifs)
+          c.loop-listed.invariant.first;
+      ifs =
+          c.in_ok-go_on.ensures
+          ∙ ap (opened_by listed.stmt) c.loop-listed.invariant.ifs
+          ∙ sym (open_more unit place listed c.loop-listed-test.true c.listed-item.is);
+    }

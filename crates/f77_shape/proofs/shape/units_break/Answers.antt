@@ -1,0 +1,39 @@
+use Rattle.std.proofs.Common.{◌≡◌, ◌++◌, List, Option, drop, sym, ap, subst, ◌∙◌}
+use Rattle.std.proofs.lemmas.List.{drop_all}
+use Rattle.std.specs.List.{flat_map}
+use Rattle.f77_ast.specs.declared.program.Listed.{Listed}
+use Rattle.f77_ast.specs.declared.program.Unit.{Unit as ProgramUnit}
+use Rattle.f77_ast.specs.declared.refusal.Refusal.{Refusal}
+use Rattle.f77_cards.specs.Cards.{first_of}
+use Rattle.f77_shape.specs.Breaks.{sooner}
+use Rattle.f77_shape.specs.Limits.{unit_breaks, name_breaks}
+use Rattle.f77_shape.specs.Program.{main_breaks}
+use Rattle.f77_shape.specs.Shape.{breaks_in, breaks_among}
+use Rattle.f77_shape.proofs.Firsts.{joined_first, parts_turn, sooner-none, first_of-append}
+use Rattle.f77_shape.proofs.shape.units_break.Goals as goal
+
+abbrev each : ProgramUnit → List Refusal
+each unit = breaks_in unit.listing
+
+pub loop-unit-init : goal.loop-unit-init
+loop-unit-init c =
+    let units = c.args.units.now in
+    let two = c.sooner-first.ensures ∙ joined_first c.bad_main.result c.too_many_units.result (main_breaks units) (unit_breaks units) c.bad_main.ensures c.too_many_units.ensures in
+    let three = c.sooner-first-2.ensures ∙ joined_first c.sooner-first.result c.in_ok-too_many_names.field-0 (main_breaks units ++ unit_breaks units) (name_breaks 0 units) two c.in_ok-too_many_names.ensures in
+    ap (λ (o : Option Refusal). sooner o (first_of (flat_map each units))) three
+    ∙ sym (first_of-append (main_breaks units ++ unit_breaks units ++ name_breaks 0 units) (flat_map each units))
+
+pub loop-unit-preserved : goal.loop-unit-preserved
+loop-unit-preserved c =
+    let units = c.args.units.now in
+    let x = c.unit-item.result in
+    parts_turn each units c.loop-unit.unit-index x c.loop-unit.first c.in_ok-unit_break.field-0 c.sooner-first-in-loop-unit.result (first_of (breaks_among units)) c.loop-unit-test.true c.unit-item.is c.sooner-first-in-loop-unit.ensures
+    (c.in_ok-unit_break.ensures ∙ ap (λ (l : List Listed). first_of (breaks_in l)) c.as_slice.ensures)
+    c.loop-unit.invariant
+
+pub returns : goal.returns
+returns c =
+    let units = c.args.units.now in
+    sym (sooner-none c.loop-unit.first)
+    ∙ ap (λ (l : List ProgramUnit). sooner c.loop-unit.first (first_of (flat_map each l))) (sym (drop_all c.loop-unit.unit-index units c.loop-unit-test.false))
+    ∙ c.loop-unit.invariant

@@ -1,0 +1,41 @@
+-- What every accepted file satisfies.
+use Rattle.std.specs.Prelude.{◌≡◌, ◌≢◌, ◌≤◌, ℕ, List, Some, Ok, length, All, IsTrue, IsFalse, slice_get}
+use Rattle.std.specs.List.{flat_map}
+use Rattle.f77_ast.specs.declared.program.Listed.{Listed}
+use Rattle.f77_ast.specs.declared.program.Unit.{Unit as ProgramUnit}
+use Rattle.f77_meaning.specs.Loops.{statements_of}
+use Rattle.f77_meaning.specs.Ranges.{RangesNest}
+use Rattle.f77_meaning.specs.Sound.{EndsWithEnd}
+use Rattle.f77_shape.specs.Shape.{shape_of}
+use Rattle.f77_shape.specs.Units.{is_main}
+
+-- each DO statement of an accepted unit has its range, and ranges nest
+abbrev pub AcceptedRangesNest : Type 0
+AcceptedRangesNest = (statements : List Listed) (units : List ProgramUnit) → shape_of statements ≡ Ok units → All (λ unit. RangesNest unit.listing) units
+
+-- the statements of an accepted file's units are those of the file, in their order, 10,000 at most, and there are 200 units
+-- at most
+pub record IsSmall (statements : List Listed) (units : List ProgramUnit) : Type 0 where
+  pub all : flat_map (λ unit. unit.listing) units ≡ statements
+  pub counted : statements_of units ≡ length statements
+  pub few_statements : length statements ≤ 10000
+  pub few_units : length units ≤ 200
+
+abbrev pub AcceptedFilesAreSmall : Type 0
+AcceptedFilesAreSmall = (statements : List Listed) (units : List ProgramUnit) → shape_of statements ≡ Ok units → IsSmall statements units
+
+-- each accepted unit ends with END; so it has a statement
+abbrev pub AcceptedUnitsEnd : Type 0
+AcceptedUnitsEnd = (statements : List Listed) (units : List ProgramUnit) → shape_of statements ≡ Ok units → All (λ unit. EndsWithEnd unit.listing) units
+
+-- one of some units is a main unit, and all others are subprograms
+pub record HasOneMain (units : List ProgramUnit) : Type 0 where
+  pub place : ℕ
+  pub unit : ProgramUnit
+  pub stands : slice_get units place ≡ Some unit
+  pub main : IsTrue (is_main unit.listing)
+  pub others : (k : ℕ) (other : ProgramUnit) → slice_get units k ≡ Some other → k ≢ place → IsFalse (is_main other.listing)
+
+-- an accepted file has exactly one main unit
+abbrev pub AcceptedFilesHaveOneMain : Type 0
+AcceptedFilesHaveOneMain = (statements : List Listed) (units : List ProgramUnit) → shape_of statements ≡ Ok units → HasOneMain units

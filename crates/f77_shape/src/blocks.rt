@@ -1,0 +1,114 @@
+//! Block IFs: IF with THEN, ELSE IF, ELSE and END IF (ANSI X3.9-1978, sections 11.6 to 11.9).
+ghost use Rattle.std.specs.Prelude.{◌≡◌, ◌<◌, ◌-◌, ◌^◌, [], reverse, IfOk, OnOk};
+ghost use Rattle.f77_cards.specs.Cards.{first_of};
+ghost use Rattle.f77_shape.specs.Blocks.{opened_by, none_open, takes_no_else, is_misplaced, ends_count, breaks_if, lacks_end, is_unended};
+ghost use Rattle.f77_shape.specs.Breaks.{broken_by};
+
+use crate::breaks::{IF_NESTING, sooner, when};
+use f77_ast::program::Listed;
+use f77_ast::refusal::Refusal;
+use f77_ast::stmt::Stmt;
+use hyb_base::no_memory::NoMemory;
+use std::alloc::Global;
+
+/// Whether no IF is open, or the ELSE of the innermost one, which is the last, has stood.
+fn takes_no_else(elses: &Vec<bool>) -> bool
+    ensures { result ≡ takes_no_else (reverse elses.now.items) }
+{
+    match elses.last() {
+        None => true,
+        Some(has_else) => *has_else,
+    }
+}
+
+/// Whether a statement lacks its IF, or stands behind the ELSE of its IF, where for each open IF, the innermost last, this
+/// tells whether its ELSE has stood.
+fn is_misplaced(elses: &Vec<bool>, stmt: &Stmt) -> bool
+    ensures { result ≡ is_misplaced (reverse elses.now.items) stmt.now }
+{
+    match stmt {
+        Stmt::ElseIf(_) => takes_no_else(elses),
+        Stmt::Else => takes_no_else(elses),
+        Stmt::EndIf => elses.is_empty(),
+        _ => false,
+    }
+}
+
+/// Goes on behind a statement: IF with THEN opens an IF, END IF closes the innermost one.
+fn go_on(elses: &mut Vec<bool>, stmt: &Stmt) -> Result<(), NoMemory>
+    ensures { OnOk result (reverse elses.new.items ≡ opened_by stmt.now (reverse elses.old.items)) }
+{
+    match stmt {
+        Stmt::BlockIf(_) => {
+            elses.push(false)?;
+            Ok(())
+        }
+        Stmt::Else => match elses.pop() {
+            None => Ok(()),
+            Some(_had) => {
+                elses.push(true)?;
+                Ok(())
+            }
+        },
+        Stmt::EndIf => {
+            let _closed = elses.pop();
+            Ok(())
+        }
+        _ => Ok(()),
+    }
+}
+
+/// Code 53: the first ELSE IF, ELSE or END IF of a unit without its IF, or ELSE IF or ELSE after an ELSE of the same IF.
+pub fn misplaced_part(alloc: Global, unit: &[Listed]) -> Result<Option<Refusal>, NoMemory>
+    ensures { IfOk result (λ first. first ≡ first_of (broken_by 53 (breaks_if unit.now) 0 unit.now)) }
+{
+    let mut first = None;
+    let mut elses: Vec<bool> = Vec::new(alloc);
+    for listed in unit {
+        let breaks = is_misplaced(&elses, &listed.stmt);
+        first = sooner(first, when(breaks, listed, IF_NESTING));
+        go_on(&mut elses, &listed.stmt)?;
+    }
+    Ok(first)
+}
+
+/// Whether a statement is an IF with THEN without END IF, where so many END IFs behind it have no IF behind it.
+fn lacks_end(stmt: &Stmt, ends: usize) -> bool
+    ensures { result ≡ lacks_end stmt.now ends }
+{
+    match stmt {
+        Stmt::BlockIf(_) => ends == 0,
+        _ => false,
+    }
+}
+
+/// How many END IFs have no IF, from one statement before on.
+fn ends_count(stmt: &Stmt, ends: usize) -> usize
+    requires { ends < 2 ^ 64 - 1 }
+    ensures { result ≡ ends_count stmt.now ends }
+{
+    match stmt {
+        Stmt::EndIf => ends + 1,
+        Stmt::BlockIf(_) => ends.saturating_sub(1),
+        _ => ends,
+    }
+}
+
+/// Code 53: the first IF with THEN of a unit without its END IF.
+pub fn unended_if(unit: &[Listed]) -> Option<Refusal>
+    ensures { result ≡ first_of (broken_by 53 is_unended 0 unit.now) }
+{
+    let mut first = None;
+    let mut ends: usize = 0;
+    let mut place = unit.len();
+    while place > 0 {
+        place -= 1;
+        let listed = &unit[place];
+        first = sooner(
+            when(lacks_end(&listed.stmt, ends), listed, IF_NESTING),
+            first,
+        );
+        ends = ends_count(&listed.stmt, ends);
+    }
+    first
+}

@@ -1,0 +1,86 @@
+//! Jumps into DO ranges and IF blocks (ANSI X3.9-1978, sections 11.6 to 11.8 and 11.10.8).
+ghost use Rattle.std.specs.Prelude.{◌≡◌};
+ghost use Rattle.std.specs.List.{list_any};
+ghost use Rattle.f77_cards.specs.Cards.{first_of};
+ghost use Rattle.f77_shape.specs.Breaks.{broken_by};
+ghost use Rattle.f77_shape.specs.Jumps.{is_entered, enters, jumps_in};
+ghost use Rattle.f77_shape.specs.Labels.{gone_to, jumps_of, target_in};
+ghost use Rattle.f77_shape.specs.Places.{ArePlaces};
+ghost use Rattle.f77_ast.specs.declared.program.Listed.{Listed};
+ghost use Rattle.std.specs.Prelude.{List};
+
+use crate::breaks::{JUMP_INTO_RANGE, sooner, when};
+use crate::places::Places;
+use crate::stretches::{Stretch, holds};
+use crate::targets::inner_of;
+use f77_ast::program::Listed;
+use f77_ast::refusal::Refusal;
+use f77_ast::stmt::{Label, Stmt};
+
+/// Whether one of some stretches holds the place of a jump's label, and not the place of the jump.
+fn enters_one_of(stretches: &[Stretch], from: usize, to: usize) -> bool
+    ensures { result ≡ list_any (is_entered from to) stretches.now }
+{
+    stretches
+        .iter()
+        .any(|stretch| holds(stretch, to) && !holds(stretch, from))
+}
+
+/// Whether a jump from a place to a label enters a DO range or an IF block.
+fn enters(places: &Places, from: usize, label: Label) -> bool
+    ensures { (unit : List Listed) → ArePlaces unit places.now → result ≡ enters unit from (target_in label unit) }
+{
+    match places.targets.find(label) {
+        None => false,
+        Some(to) => {
+            enters_one_of(places.ranges.as_slice(), from, to)
+                || enters_one_of(places.blocks.as_slice(), from, to)
+        }
+    }
+}
+
+/// The same of one of some labels.
+fn enters_by_one(places: &Places, from: usize, labels: &[Label]) -> bool
+    ensures { (unit : List Listed) → ArePlaces unit places.now → result ≡ list_any (λ label. enters unit from (target_in label unit)) labels.now }
+{
+    for label in labels {
+        if enters(places, from, *label) {
+            return true;
+        }
+    }
+    false
+}
+
+/// Whether GO TO, a computed GO TO or an arithmetic IF at a place enters a DO range or an IF block.
+fn goes_in(places: &Places, from: usize, stmt: &Stmt) -> bool
+    ensures { (unit : List Listed) → ArePlaces unit places.now → result ≡ list_any (λ label. enters unit from (target_in label unit)) (gone_to stmt.now) }
+{
+    match stmt {
+        Stmt::Goto(label) => enters(places, from, *label),
+        Stmt::ComputedGoto { labels, .. } => enters_by_one(places, from, labels.as_slice()),
+        Stmt::ArithmeticIf {
+            negative,
+            zero,
+            positive,
+            ..
+        } => {
+            enters(places, from, *negative)
+                || enters(places, from, *zero)
+                || enters(places, from, *positive)
+        }
+        _ => false,
+    }
+}
+
+/// Code 55: the first GO TO or arithmetic IF of a unit with a label in a DO range or IF block that doesn't hold it.
+pub fn jump_in(unit: &[Listed], places: &Places) -> Option<Refusal>
+    requires { ArePlaces unit.now places.now }
+    ensures { result ≡ first_of (broken_by 55 (jumps_in unit.now) 0 unit.now) }
+{
+    let mut first = None;
+    for (place, listed) in unit.iter().enumerate() {
+        let breaks = goes_in(places, place, inner_of(&listed.stmt));
+        first = sooner(first, when(breaks, listed, JUMP_INTO_RANGE));
+    }
+    first
+}

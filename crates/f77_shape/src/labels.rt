@@ -1,0 +1,105 @@
+//! Labels that no statement has, and labels that two have.
+ghost use Rattle.std.specs.Prelude.{◌≡◌, ℕ, IfOk, OnOk, ◌||◌, nat_eq};
+ghost use Rattle.std.specs.HashSet.{contains};
+ghost use Rattle.std.specs.List.{list_any};
+ghost use Rattle.std.specs.Option.{option_to_list};
+ghost use Rattle.f77_cards.specs.Cards.{first_of};
+ghost use Rattle.f77_meaning.specs.Loops.{terminal_of, is_label};
+ghost use Rattle.f77_shape.specs.Breaks.{broken_by};
+ghost use Rattle.f77_shape.specs.Labels.{gone_to, labels_of, misses_label, doubles_label};
+ghost use Rattle.f77_shape.specs.Targets.{AreTargets};
+ghost use Rattle.f77_shape.specs.Tables.{lacks, is_seen};
+
+use crate::breaks::{DOUBLE_LABEL, LABEL_MISSING, sooner, when};
+use crate::targets::{Targets, inner_of, terminal_of};
+use f77_ast::program::Listed;
+use f77_ast::refusal::Refusal;
+use f77_ast::stmt::{Label, Stmt};
+use hyb_base::no_memory::NoMemory;
+use std::alloc::Global;
+use std::collections::HashSet;
+
+/// Whether no executable statement has a label.
+fn lacks(targets: &Targets, label: Label) -> bool
+    ensures { result ≡ lacks targets.now label }
+{
+    targets.find(label).is_none()
+}
+
+/// Whether no executable statement has one of some labels.
+fn misses_one(targets: &Targets, labels: &[Label]) -> bool
+    ensures { result ≡ list_any (lacks targets.now) labels.now }
+{
+    labels.iter().any(|label| lacks(targets, *label))
+}
+
+/// The same of the labels to which GO TO, a computed GO TO or an arithmetic IF goes on.
+fn misses_jump(targets: &Targets, stmt: &Stmt) -> bool
+    ensures { result ≡ list_any (lacks targets.now) (gone_to stmt.now) }
+{
+    match stmt {
+        Stmt::Goto(label) => lacks(targets, *label),
+        Stmt::ComputedGoto { labels, .. } => misses_one(targets, labels.as_slice()),
+        Stmt::ArithmeticIf {
+            negative,
+            zero,
+            positive,
+            ..
+        } => lacks(targets, *negative) || lacks(targets, *zero) || lacks(targets, *positive),
+        _ => false,
+    }
+}
+
+/// The same of the terminal statement's label of a DO statement.
+fn misses_terminal(targets: &Targets, stmt: &Stmt) -> bool
+    ensures { result ≡ list_any (lacks targets.now) (option_to_list (terminal_of stmt.now)) }
+{
+    match terminal_of(stmt) {
+        None => false,
+        Some(label) => lacks(targets, label),
+    }
+}
+
+/// The same of all labels that a statement names.
+fn misses_label(targets: &Targets, stmt: &Stmt) -> bool
+    ensures { result ≡ list_any (lacks targets.now) (labels_of stmt.now) }
+{
+    misses_terminal(targets, stmt) || misses_jump(targets, inner_of(stmt))
+}
+
+/// Code 50: the first statement of a unit with a label that no executable statement of the unit has.
+pub fn missing_label(unit: &[Listed], targets: &Targets) -> Option<Refusal>
+    requires { AreTargets unit.now targets.now }
+    ensures { result ≡ first_of (broken_by 50 (misses_label unit.now) 0 unit.now) }
+{
+    let mut first = None;
+    for listed in unit {
+        let breaks = misses_label(targets, &listed.stmt);
+        first = sooner(first, when(breaks, listed, LABEL_MISSING));
+    }
+    first
+}
+
+/// Notes a label, and tells whether it was noted before.
+fn note_again(seen: &mut HashSet<Label>, label: Option<Label>) -> Result<bool, NoMemory>
+    ensures again { IfOk result (λ again. again ≡ is_seen (contains nat_eq seen.old) label) }
+    ensures noted { OnOk result ((q : ℕ) → contains nat_eq seen.new q ≡ (contains nat_eq seen.old q || is_label q label)) }
+{
+    match label {
+        None => Ok(false),
+        Some(label) => Ok(!seen.insert(label)?),
+    }
+}
+
+/// Code 51: the first statement of a unit with a label that an earlier statement of the unit has.
+pub fn double_label(alloc: Global, unit: &[Listed]) -> Result<Option<Refusal>, NoMemory>
+    ensures { IfOk result (λ first. first ≡ first_of (broken_by 51 (doubles_label unit.now) 0 unit.now)) }
+{
+    let mut first = None;
+    let mut seen = HashSet::new(alloc);
+    for listed in unit {
+        let breaks = note_again(&mut seen, listed.card.label)?;
+        first = sooner(first, when(breaks, listed, DOUBLE_LABEL));
+    }
+    Ok(first)
+}

@@ -1,0 +1,96 @@
+//! The limits on statements, units and names; they are this project's own.
+ghost use Rattle.std.specs.Prelude.{◌≡◌, ◌+◌, ◌≤◌, ℕ, min, IfOk};
+ghost use Rattle.f77_cards.specs.Cards.{first_of};
+ghost use Rattle.f77_shape.specs.Counts.{IsCounted};
+ghost use Rattle.f77_shape.specs.Limits.{statement_breaks, unit_breaks, name_breaks, passes};
+
+use crate::breaks::{SIZE_LIMIT, sooner, when};
+use crate::names::Names;
+use crate::program::first_refused;
+use f77_ast::program::{Listed, Unit};
+use f77_ast::refusal::Refusal;
+use hyb_base::no_memory::NoMemory;
+use std::alloc::Global;
+
+/// The greatest number of statements of a file.
+const MOST_STATEMENTS: usize = 10_000;
+
+/// The greatest number of units of a file.
+const MOST_UNITS: usize = 200;
+
+/// The greatest number of names of a file, each counted once in each unit in which it stands.
+const MOST_NAMES: usize = 10_000;
+
+/// Code 56: the 10,001st statement of a file.
+pub fn too_many_statements(statements: &[Listed]) -> Option<Refusal>
+    ensures { result ≡ first_of (statement_breaks statements.now) }
+{
+    match statements.get(MOST_STATEMENTS) {
+        None => None,
+        Some(listed) => when(true, listed, SIZE_LIMIT),
+    }
+}
+
+/// Code 56: the first statement of the 201st unit.
+pub fn too_many_units(units: &[Unit]) -> Option<Refusal>
+    ensures { result ≡ first_of (unit_breaks units.now) }
+{
+    match units.get(MOST_UNITS) {
+        None => None,
+        Some(unit) => first_refused(unit.listing.as_slice(), SIZE_LIMIT),
+    }
+}
+
+/// So many names and more, or one more than may be where they are more than that.
+fn capped(others: usize, count: usize) -> usize
+    ensures { result ≡ min (others + count) 10001 }
+{
+    others.saturating_add(count).min(MOST_NAMES + 1)
+}
+
+/// Whether the limit on names is passed between two numbers of names.
+fn passes(before: usize, after: usize) -> bool
+    ensures { result ≡ passes before after }
+{
+    before <= MOST_NAMES && after > MOST_NAMES
+}
+
+/// What the names of a unit come to.
+#[derive(Drop)]
+struct Counted {
+    /// The refusal of the statement at which the limit is passed.
+    over: Option<Refusal>,
+    /// The number of names with those of the units before, or one more than may be where they are more than that.
+    count: usize,
+}
+
+/// Counts the names of a unit, with those of the units before.
+fn count_names(alloc: Global, others: usize, unit: &[Listed]) -> Result<Counted, NoMemory>
+    requires { others ≤ 10001 }
+    ensures { IfOk result (λ counted. (all : ℕ) → others ≡ min all 10001 → IsCounted all unit.now counted.over counted.count) }
+{
+    let mut names = Names::new(alloc);
+    let mut over = None;
+    let mut count = others;
+    for listed in unit {
+        names.statement(&listed.stmt)?;
+        let after = capped(others, names.len());
+        over = sooner(over, when(passes(count, after), listed, SIZE_LIMIT));
+        count = after;
+    }
+    Ok(Counted { over, count })
+}
+
+/// Code 56: the statement at which the number of names passes the limit.
+pub fn too_many_names(alloc: Global, units: &[Unit]) -> Result<Option<Refusal>, NoMemory>
+    ensures { IfOk result (λ first. first ≡ first_of (name_breaks 0 units.now)) }
+{
+    let mut first = None;
+    let mut others = 0;
+    for unit in units {
+        let counted = count_names(alloc, others, unit.listing.as_slice())?;
+        first = sooner(first, counted.over);
+        others = counted.count;
+    }
+    Ok(first)
+}

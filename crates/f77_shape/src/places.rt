@@ -1,0 +1,34 @@
+//! The tables of a unit: its labels, its DO ranges and its IF blocks.
+ghost use Rattle.std.specs.Prelude.{IfOk};
+ghost use Rattle.f77_shape.specs.Places.{ArePlaces};
+
+use crate::stretches::{Stretch, blocks_of, ranges_of};
+use crate::targets::{Targets, targets_of};
+use f77_ast::program::Listed;
+use hyb_base::no_memory::NoMemory;
+use std::alloc::Global;
+
+/// The tables of a unit.
+#[derive(Drop)]
+pub struct Places {
+    /// What its labels mean.
+    pub targets: Targets,
+    /// Its DO ranges.
+    pub ranges: Vec<Stretch>,
+    /// Its IF blocks.
+    pub blocks: Vec<Stretch>,
+}
+
+/// The tables of a unit.
+pub fn places_of(alloc: Global, unit: &[Listed]) -> Result<Places, NoMemory>
+    ensures { IfOk result (λ places. ArePlaces unit.now places) }
+{
+    let targets = targets_of(alloc, unit)?;
+    let ranges = ranges_of(alloc, unit, &targets)?;
+    let blocks = blocks_of(alloc, unit)?;
+    Ok(Places {
+        targets,
+        ranges,
+        blocks,
+    })
+}
