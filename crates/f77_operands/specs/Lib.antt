@@ -1,0 +1,3 @@
+pub mod Capped
+pub mod Limit
+pub mod Needs
