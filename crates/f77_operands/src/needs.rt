@@ -4,8 +4,8 @@ ghost use Rattle.f77_operands.specs.Capped.{capped};
 ghost use Rattle.f77_operands.specs.Needs.{expr_need, ref_need, option_need, args_need, part_need, control_need, item_need, length_need, type_need, bound_need, declarator_need, entity_need, group_need, members_need, named_need, rule_need, value_need, data_need, need_of};
 
 use crate::capped::{count, one_if, plus};
-use crate::part::{Part, needs};
-use f77_ast::expr::{Expr, Part as Substring, Ref};
+use crate::counted::{Counted, needs};
+use f77_ast::expr::{Expr, Part, Ref};
 use f77_ast::initial::{DataGroup, DataValue};
 use f77_ast::specification::{
     Bound, CommonGroup, Declarator, EquivalenceGroup, ImplicitRule, Length, NamedConstant, TypeSpec,
@@ -58,7 +58,7 @@ fn args_need(args: &Option<Items<Expr>>) -> u32
 
 /// The need of a substring's bounds.
 #[cycle(needs)]
-fn part_need(part: &Option<Boxed<Substring>>) -> u32
+fn part_need(part: &Option<Boxed<Part>>) -> u32
     ensures { result ≡ capped (part_need part.now) }
 {
     match part {
@@ -78,7 +78,7 @@ fn end_need(end: &Option<Expr>) -> u32
     }
 }
 
-impl Part for Expr {
+impl Counted for Expr {
     ghost use Rattle.f77_operands.specs.Needs.{expr_need};
 
     ghost need_of = { expr_need };
@@ -88,7 +88,7 @@ impl Part for Expr {
     }
 }
 
-impl Part for Ref {
+impl Counted for Ref {
     ghost use Rattle.f77_operands.specs.Needs.{ref_need};
 
     ghost need_of = { ref_need };
@@ -98,7 +98,7 @@ impl Part for Ref {
     }
 }
 
-impl Part for LoopControl {
+impl Counted for LoopControl {
     ghost use Rattle.f77_operands.specs.Needs.{control_need};
 
     ghost need_of = { control_need };
@@ -127,7 +127,7 @@ fn item_need(item: &Item) -> u32
     }
 }
 
-impl Part for Item {
+impl Counted for Item {
     ghost use Rattle.f77_operands.specs.Needs.{item_need};
 
     ghost need_of = { item_need };
@@ -137,7 +137,7 @@ impl Part for Item {
     }
 }
 
-impl Part for Length {
+impl Counted for Length {
     ghost use Rattle.f77_operands.specs.Needs.{length_need};
 
     ghost need_of = { length_need };
@@ -152,7 +152,7 @@ impl Part for Length {
     }
 }
 
-impl Part for TypeSpec {
+impl Counted for TypeSpec {
     ghost use Rattle.f77_operands.specs.Needs.{type_need};
 
     ghost need_of = { type_need };
@@ -167,7 +167,7 @@ impl Part for TypeSpec {
     }
 }
 
-impl Part for Bound {
+impl Counted for Bound {
     ghost use Rattle.f77_operands.specs.Needs.{bound_need};
 
     ghost need_of = { bound_need };
@@ -178,7 +178,7 @@ impl Part for Bound {
     }
 }
 
-impl Part for Declarator {
+impl Counted for Declarator {
     ghost use Rattle.f77_operands.specs.Needs.{declarator_need};
 
     ghost need_of = { declarator_need };
@@ -189,7 +189,7 @@ impl Part for Declarator {
     }
 }
 
-impl Part for TypedDeclarator {
+impl Counted for TypedDeclarator {
     ghost use Rattle.f77_operands.specs.Needs.{entity_need};
 
     ghost need_of = { entity_need };
@@ -200,7 +200,7 @@ impl Part for TypedDeclarator {
     }
 }
 
-impl Part for CommonGroup {
+impl Counted for CommonGroup {
     ghost use Rattle.f77_operands.specs.Needs.{group_need};
 
     ghost need_of = { group_need };
@@ -211,7 +211,7 @@ impl Part for CommonGroup {
     }
 }
 
-impl Part for EquivalenceGroup {
+impl Counted for EquivalenceGroup {
     ghost use Rattle.f77_operands.specs.Needs.{members_need};
 
     ghost need_of = { members_need };
@@ -222,7 +222,7 @@ impl Part for EquivalenceGroup {
     }
 }
 
-impl Part for NamedConstant {
+impl Counted for NamedConstant {
     ghost use Rattle.f77_operands.specs.Needs.{named_need};
 
     ghost need_of = { named_need };
@@ -233,7 +233,7 @@ impl Part for NamedConstant {
     }
 }
 
-impl Part for ImplicitRule {
+impl Counted for ImplicitRule {
     ghost use Rattle.f77_operands.specs.Needs.{rule_need};
 
     ghost need_of = { rule_need };
@@ -244,7 +244,7 @@ impl Part for ImplicitRule {
     }
 }
 
-impl Part for DataValue {
+impl Counted for DataValue {
     ghost use Rattle.f77_operands.specs.Needs.{value_need};
 
     ghost need_of = { value_need };
@@ -255,7 +255,7 @@ impl Part for DataValue {
     }
 }
 
-impl Part for DataGroup {
+impl Counted for DataGroup {
     ghost use Rattle.f77_operands.specs.Needs.{data_need};
 
     ghost need_of = { data_need };

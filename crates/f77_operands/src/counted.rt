@@ -1,11 +1,11 @@
-//! Parts of statements that need operands, and lists of them.
+//! Parts of statements whose operands are counted, and lists of them.
 ghost use Rattle.std.specs.Prelude.{◌≡◌, sum_by};
 ghost use Rattle.f77_operands.specs.Capped.{capped};
 
 use crate::capped::plus;
 
-/// A part of a statement that needs operands.
-pub trait Part {
+/// A part of a statement whose operands are counted.
+pub trait Counted {
     ghost use Rattle.std.specs.Prelude.{ℕ};
     ghost use Rattle.f77_operands.specs.Capped.{capped};
 
@@ -16,7 +16,7 @@ pub trait Part {
         ensures { result ≡ capped (need_of self.now) };
 }
 
-impl<T: Part> Part for Option<T> {
+impl<T: Counted> Counted for Option<T> {
     ghost use Rattle.f77_operands.specs.Needs.{option_need};
 
     ghost need_of = { option_need T.need_of };
@@ -30,7 +30,7 @@ impl<T: Part> Part for Option<T> {
 }
 
 /// The need of some parts together.
-pub fn needs<T: Part>(parts: &[T]) -> u32
+pub fn needs<T: Counted>(parts: &[T]) -> u32
     ensures { result ≡ capped (sum_by T.need_of parts.now) }
 {
     let mut need = 0;
