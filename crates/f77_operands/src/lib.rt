@@ -7,7 +7,7 @@
 
 mod capped;
 mod counted;
-//pub mod laws;
+pub mod laws;
 pub mod limit;
 pub mod needs;
 //#
