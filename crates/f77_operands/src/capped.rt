@@ -18,7 +18,9 @@ pub fn plus(one: u32, other: u32) -> u32
 pub fn count<T>(list: &[T]) -> u32
     ensures { result ≡ capped (length list.now) }
 {
-    u32::try_from(list.len()).unwrap_or(MOST_OPERANDS + 1).min(MOST_OPERANDS + 1)
+    u32::try_from(list.len())
+        .unwrap_or(MOST_OPERANDS + 1)
+        .min(MOST_OPERANDS + 1)
 }
 
 /// One for what may be there.

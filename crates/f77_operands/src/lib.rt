@@ -10,5 +10,5 @@ mod counted;
 pub mod laws;
 pub mod limit;
 pub mod needs;
-//#
-//mod tests;
+#[cfg(test)]
+mod tests;

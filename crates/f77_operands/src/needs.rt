@@ -8,8 +8,8 @@ use crate::counted::{Counted, needs};
 use f77_ast::expr::{Expr, Part, Ref};
 use f77_ast::initial::{DataGroup, DataValue};
 use f77_ast::specification::{
-    Bound, CommonGroup, Declarator, EquivalenceGroup, ImplicitRule, Length, NamedConstant, TypeSpec,
-    TypedDeclarator,
+    Bound, CommonGroup, Declarator, EquivalenceGroup, ImplicitRule, Length, NamedConstant,
+    TypeSpec, TypedDeclarator,
 };
 use f77_ast::stmt::{Item, LoopControl, Stmt};
 use sqlite_items::{Boxed, Items};
@@ -35,7 +35,10 @@ fn expr_need(expr: &Expr) -> u32
 fn ref_need(reference: &Ref) -> u32
     ensures { result ≡ capped (ref_need reference.now) }
 {
-    plus(plus(1, args_need(&reference.args)), part_need(&reference.part))
+    plus(
+        plus(1, args_need(&reference.args)),
+        part_need(&reference.part),
+    )
 }
 
 /// The need of the subscripts or arguments of a reference.
@@ -262,7 +265,10 @@ impl Counted for DataGroup {
 
     /// The need of a group of DATA (section 9.1).
     fn need(&self) -> u32 {
-        plus(needs(self.targets.as_slice()), needs(self.values.as_slice()))
+        plus(
+            needs(self.targets.as_slice()),
+            needs(self.values.as_slice()),
+        )
     }
 }
 
