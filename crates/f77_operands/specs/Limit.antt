@@ -1,5 +1,5 @@
 -- The limit on the operands of a program; it is this project's own.
-use Rattle.std.specs.Prelude.{◌≡◌, ℕ, ◌+◌, ◌≤◌, max, Bool, nat_lt, List, [], ◌∷◌, Option, None, Some, find, fold, option_map}
+use Rattle.std.specs.Prelude.{ℕ, ◌+◌, max, Bool, nat_lt, List, [], ◌∷◌, Option, None, Some, find, fold, option_map}
 use Rattle.std.specs.Option.{option_or}
 use Rattle.f77_ast.specs.declared.program.Listed.{Listed}
 use Rattle.f77_ast.specs.declared.program.Unit.{Unit as ProgramUnit}
@@ -30,9 +30,3 @@ refusal_from others (unit ∷ units) = option_or (unit_refusal others unit.listi
 -- the refusal of the first statement of a file at which the greatest needs of its units so far come to more than 32,768
 abbrev pub operand_refusal : List ProgramUnit → Option Refusal
 operand_refusal units = refusal_from 0 units
-
--- a unit's statements keep within the limit, and this is their need
-pub record IsWithin (others : ℕ) (listing : List Listed) (need : ℕ) : Type 0 where
-  pub accepted : unit_refusal others listing ≡ None
-  pub greatest : need ≡ greatest_need listing
-  pub within : others + need ≤ 32768

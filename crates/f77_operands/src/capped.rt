@@ -1,6 +1,5 @@
 //! Numbers of operands that don't wrap: one past the limit is kept as one more than may be.
-ghost use Rattle.std.specs.Prelude.{◌≡◌, ◌+◌, length, List};
-ghost use Rattle.std.specs.Option.{option_copied};
+ghost use Rattle.std.specs.Prelude.{◌≡◌, ◌+◌, length};
 ghost use Rattle.f77_operands.specs.Capped.{capped};
 ghost use Rattle.f77_operands.specs.Needs.{one_if};
 
@@ -14,7 +13,7 @@ pub fn plus(one: u32, other: u32) -> u32
     one.saturating_add(other).min(MOST_OPERANDS + 1)
 }
 
-/// How many a list has.
+/// The number of items of a list.
 pub fn count<T>(list: &[T]) -> u32
     ensures { result ≡ capped (length list.now) }
 {

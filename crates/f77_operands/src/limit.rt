@@ -1,7 +1,7 @@
 //! The limit on the operands of a program; it is this project's own.
-ghost use Rattle.std.specs.Prelude.{◌≡◌, ◌≤◌, ◌+◌, Some, None, IfOk, IfErr};
-ghost use Rattle.f77_operands.specs.Capped.{capped};
-ghost use Rattle.f77_operands.specs.Limit.{IsWithin, is_past, too_many, unit_refusal, operand_refusal};
+ghost use Rattle.std.specs.Prelude.{◌≡◌, ◌≤◌, ◌+◌, Some, nat_lt, IfOk, IfErr};
+ghost use Rattle.f77_operands.specs.Capped.{IsWithin};
+ghost use Rattle.f77_operands.specs.Limit.{too_many, unit_refusal, operand_refusal};
 
 use crate::capped::{MOST_OPERANDS, plus};
 use crate::needs::operand_need;
@@ -11,11 +11,11 @@ use f77_ast::refusal::Refusal;
 /// The code of a file with too many operands.
 const SIZE_LIMIT: u8 = 56;
 
-/// Whether the limit is passed at a statement, where the needs of the units before come to so many.
-fn is_past(others: u32, listed: &Listed) -> bool
-    ensures { result ≡ is_past others listed.now }
+/// Whether the limit is passed at a statement of this need, where the needs of the units before come to so many.
+fn is_past(others: u32, need: u32) -> bool
+    ensures { result ≡ nat_lt 32768 (others + need) }
 {
-    plus(others, operand_need(&listed.stmt)) > MOST_OPERANDS
+    plus(others, need) > MOST_OPERANDS
 }
 
 /// The refusal of a statement at which the limit is passed.
@@ -37,10 +37,11 @@ fn unit_need(others: u32, listing: &[Listed]) -> Result<u32, Refusal>
 {
     let mut greatest = 0;
     for listed in listing {
-        if is_past(others, listed) {
+        let need = operand_need(&listed.stmt);
+        if is_past(others, need) {
             return Err(too_many(listed));
         }
-        greatest = operand_need(&listed.stmt).max(greatest);
+        greatest = greatest.max(need);
     }
     Ok(greatest)
 }

@@ -14,466 +14,481 @@ use f77_ast::specification::{
 };
 use f77_ast::stmt::{Item, LoopControl, Stmt, StopCode};
 use hyb_base::bytes::Bytes;
-use hyb_base::no_memory::NoMemory;
 use sqlite_items::{Boxed, Items};
 use std::alloc::Global;
 use std::process::Abort;
 use std::test::Fail;
 
-/// A name.
-fn name(text: &[u8]) -> Result<Name, Fail> {
-    Ok(Name::new(text).ok_or("not a name")?)
-}
-
-/// A list of one.
-fn one<T: Drop>(alloc: Global, item: T) -> Result<Items<T>, NoMemory> {
-    let mut items = Items::new(alloc);
-    items.push(item)?;
-    Ok(items)
-}
-
-/// A list of two.
-fn two<T: Drop>(alloc: Global, first: T, second: T) -> Result<Items<T>, NoMemory> {
-    let mut items = one(alloc, first)?;
-    items.push(second)?;
-    Ok(items)
-}
-
-/// A reference without a list.
-fn plain(text: &[u8]) -> Result<Ref, Fail> {
-    Ok(Ref {
-        name: name(text)?,
-        args: None,
-        part: None,
-    })
-}
-
-/// A variable as an expression.
-fn variable(text: &[u8]) -> Result<Expr, Fail> {
-    Ok(Expr::Ref(plain(text)?))
-}
-
-/// A reference with a list.
-fn with(text: &[u8], args: Items<Expr>) -> Result<Ref, Fail> {
-    Ok(Ref {
-        name: name(text)?,
-        args: Some(args),
-        part: None,
-    })
-}
-
-/// The part of a reference between two positions.
-fn part(
+/// Makes parts of trees. Where there is no memory it ends the test.
+struct Trees<'a, A: Abort> {
+    rt: &'a A,
     alloc: Global,
-    whole: Ref,
-    low: Option<Expr>,
-    high: Option<Expr>,
-) -> Result<Expr, NoMemory> {
-    Ok(Expr::Ref(Ref {
-        name: whole.name,
-        args: whole.args,
-        part: Some(Boxed::new(alloc, Part { low, high })?),
-    }))
 }
 
-/// A character constant.
-fn characters(alloc: Global) -> Result<Bytes, NoMemory> {
-    Bytes::from_slice(alloc, b"X Y")
-}
+impl<A: Abort> Trees<'_, A> {
+    /// A name.
+    fn name(&self, text: &[u8]) -> Name {
+        Name::new(text).expect(self.rt, "a name")
+    }
 
-/// Two expressions with an operator between.
-fn joined(alloc: Global, op: Op, left: Expr, right: Expr) -> Result<Expr, NoMemory> {
-    let left = Boxed::new(alloc, left)?;
-    Ok(Expr::Binary(op, left, Boxed::new(alloc, right)?))
-}
+    /// A list of none.
+    fn none<T>(&self) -> Items<T> {
+        Items::new(self.alloc)
+    }
 
-/// The control `I=1,` and a last value.
-fn control(variable: &[u8], last: Expr, step: Option<Expr>) -> Result<LoopControl, Fail> {
-    Ok(LoopControl {
-        variable: name(variable)?,
-        first: Expr::Int(1),
-        last,
-        step,
-    })
-}
+    /// A list of one.
+    fn one<T: Drop>(&self, item: T) -> Items<T> {
+        let mut items = Items::new(self.alloc);
+        assert!(self.rt; items.push(item).is_ok());
+        items
+    }
 
-/// An assignment.
-fn assign(target: Ref, value: Expr) -> Stmt {
-    Stmt::Assign { target, value }
-}
+    /// A list of two.
+    fn two<T: Drop>(&self, first: T, second: T) -> Items<T> {
+        let mut items = self.one(first);
+        assert!(self.rt; items.push(second).is_ok());
+        items
+    }
 
-/// A declared name without bounds.
-fn declared(alloc: Global, text: &[u8]) -> Result<Declarator, Fail> {
-    Ok(Declarator {
-        name: name(text)?,
-        bounds: Items::new(alloc),
-    })
-}
+    /// A part on the heap.
+    fn boxed<T: Drop>(&self, part: T) -> Boxed<T> {
+        match Boxed::new(self.alloc, part) {
+            Ok(boxed) => boxed,
+            Err(_) => panic!(self.rt; "no memory"),
+        }
+    }
 
-/// An array of one dimension.
-fn array(
-    alloc: Global,
-    text: &[u8],
-    low: Option<Expr>,
-    high: Option<Expr>,
-) -> Result<Declarator, Fail> {
-    Ok(Declarator {
-        name: name(text)?,
-        bounds: one(alloc, Bound { low, high })?,
-    })
-}
+    /// A reference without a list.
+    fn plain(&self, text: &[u8]) -> Ref {
+        Ref {
+            name: self.name(text),
+            args: None,
+            part: None,
+        }
+    }
 
-/// Asserts the needs of statements.
-fn check(rt: &impl Abort, rows: &[(u32, Stmt)]) {
-    for (row, (need, stmt)) in rows.iter().enumerate() {
-        assert_eq!(rt; operand_need(stmt), *need, "row {row}");
+    /// A variable as an expression.
+    fn variable(&self, text: &[u8]) -> Expr {
+        Expr::Ref(self.plain(text))
+    }
+
+    /// A reference with a list.
+    fn with(&self, text: &[u8], args: Items<Expr>) -> Ref {
+        Ref {
+            name: self.name(text),
+            args: Some(args),
+            part: None,
+        }
+    }
+
+    /// The part of a reference between two positions.
+    fn part(&self, whole: Ref, low: Option<Expr>, high: Option<Expr>) -> Expr {
+        Expr::Ref(Ref {
+            name: whole.name,
+            args: whole.args,
+            part: Some(self.boxed(Part { low, high })),
+        })
+    }
+
+    /// A character constant.
+    fn characters(&self) -> Bytes {
+        match Bytes::from_slice(self.alloc, b"X Y") {
+            Ok(characters) => characters,
+            Err(_) => panic!(self.rt; "no memory"),
+        }
+    }
+
+    /// Two expressions with an operator between.
+    fn joined(&self, op: Op, left: Expr, right: Expr) -> Expr {
+        Expr::Binary(op, self.boxed(left), self.boxed(right))
+    }
+
+    /// A control from 1 on.
+    fn control(&self, variable: &[u8], last: Expr, step: Option<Expr>) -> LoopControl {
+        LoopControl {
+            variable: self.name(variable),
+            first: Expr::Int(1),
+            last,
+            step,
+        }
+    }
+
+    /// An assignment to a variable `X`.
+    fn set(&self, value: Expr) -> Stmt {
+        Stmt::Assign {
+            target: self.plain(b"X"),
+            value,
+        }
+    }
+
+    /// A declared name without bounds.
+    fn declared(&self, text: &[u8]) -> Declarator {
+        Declarator {
+            name: self.name(text),
+            bounds: self.none(),
+        }
+    }
+
+    /// An array of one dimension.
+    fn array(&self, text: &[u8], low: Option<Expr>, high: Option<Expr>) -> Declarator {
+        Declarator {
+            name: self.name(text),
+            bounds: self.one(Bound { low, high }),
+        }
+    }
+
+    /// Asserts the need of a statement.
+    fn check(&self, text: &str, need: u32, stmt: Stmt) {
+        assert_eq!(self.rt; operand_need(&stmt), need, "{text}");
     }
 }
 
 #[test]
-fn operands_of_expressions(rt: HostRuntime) -> Result<(), Fail> {
-    let alloc = rt.alloc();
-    let element = with(b"A", one(alloc, variable(b"I")?)?)?;
-    let pair = with(b"A", two(alloc, Expr::Int(1), Expr::Int(2))?)?;
-    let sum = joined(alloc, Op::Add, Expr::Ref(pair), Expr::Int(3))?;
-    let of_element = with(b"A", one(alloc, variable(b"I")?)?)?;
-    let tail = part(alloc, of_element, Some(variable(b"J")?), None)?;
-    let middle = part(alloc, plain(b"C")?, Some(Expr::Int(2)), Some(Expr::Int(3)))?;
-    let whole = part(alloc, plain(b"C")?, None, None)?;
-    let front = part(alloc, plain(b"C")?, None, Some(variable(b"N")?))?;
-    let negated = Expr::Unary(Op::Not, Boxed::new(alloc, variable(b"L")?)?);
-    let call = Expr::Ref(with(b"F", Items::new(alloc))?);
-    let nested = Expr::Ref(with(b"F", one(alloc, Expr::Ref(with(b"A", one(alloc, call)?)?))?)?);
-    let rows = [
-        // X=1
-        (2, assign(plain(b"X")?, Expr::Int(1))),
-        // A(I)=.TRUE.
-        (3, assign(element, Expr::Truth(true))),
-        // X=A(1,2)+3
-        (5, assign(plain(b"X")?, sum)),
-        // X=A(I)(J:)
-        (4, assign(plain(b"X")?, tail)),
-        // X=C(2:3)
-        (4, assign(plain(b"X")?, middle)),
-        // X=C(:)
-        (2, assign(plain(b"X")?, whole)),
-        // X=C(:N)
-        (3, assign(plain(b"X")?, front)),
-        // X=.NOT.L
-        (2, assign(plain(b"X")?, negated)),
-        // X=F(A(F()))
-        (4, assign(plain(b"X")?, nested)),
-        // X='X Y'
-        (2, assign(plain(b"X")?, Expr::Chars(characters(alloc)?))),
-        // X=(1)
-        (
-            2,
-            assign(plain(b"X")?, Expr::Paren(Boxed::new(alloc, Expr::Int(1))?)),
-        ),
-    ];
-    check(&rt, &rows);
-    Ok(())
+fn operands_of_references(rt: HostRuntime) {
+    let to = Trees {
+        rt: &rt,
+        alloc: rt.alloc(),
+    };
+    let element = to.with(b"A", to.one(to.variable(b"I")));
+    to.check(
+        "A(I)=.TRUE.",
+        3,
+        Stmt::Assign {
+            target: element,
+            value: Expr::Truth(true),
+        },
+    );
+    let pair = Expr::Ref(to.with(b"A", to.two(Expr::Int(1), Expr::Int(2))));
+    to.check(
+        "X=A(1,2)+3",
+        5,
+        to.set(to.joined(Op::Add, pair, Expr::Int(3))),
+    );
+    let element = to.with(b"A", to.one(to.variable(b"I")));
+    to.check(
+        "X=A(I)(J:)",
+        4,
+        to.set(to.part(element, Some(to.variable(b"J")), None)),
+    );
+    let middle = to.part(to.plain(b"C"), Some(Expr::Int(2)), Some(Expr::Int(3)));
+    to.check("X=C(2:3)", 4, to.set(middle));
+    to.check("X=C(:)", 2, to.set(to.part(to.plain(b"C"), None, None)));
+    let front = to.part(to.plain(b"C"), None, Some(to.variable(b"N")));
+    to.check("X=C(:N)", 3, to.set(front));
+    let call = Expr::Ref(to.with(b"F", to.none()));
+    let nested = to.with(b"F", to.one(Expr::Ref(to.with(b"A", to.one(call)))));
+    to.check("X=F(A(F()))", 4, to.set(Expr::Ref(nested)));
 }
 
 #[test]
-fn operands_of_executable_statements(rt: HostRuntime) -> Result<(), Fail> {
-    let alloc = rt.alloc();
-    let condition = joined(alloc, Op::And, variable(b"L")?, variable(b"M")?)?;
-    let inner = assign(with(b"A", one(alloc, variable(b"I")?)?)?, Expr::Int(1));
-    let rows = [
-        // DO 10 I=1,N,2
-        (
-            4,
-            Stmt::Do {
-                terminal: 10,
-                control: control(b"I", variable(b"N")?, Some(Expr::Int(2)))?,
-            },
-        ),
-        // DO 10 I=1,9
-        (
-            3,
-            Stmt::Do {
-                terminal: 10,
-                control: control(b"I", Expr::Int(9), None)?,
-            },
-        ),
-        (0, Stmt::Continue),
-        (0, Stmt::Return),
-        (0, Stmt::Else),
-        (0, Stmt::EndIf),
-        (0, Stmt::End),
-        (0, Stmt::Stop(None)),
-        (1, Stmt::Stop(Some(StopCode::Digits(77)))),
-        (1, Stmt::Stop(Some(StopCode::Chars(characters(alloc)?)))),
-        (0, Stmt::Goto(10)),
-        // GOTO(10,20),K
-        (
-            1,
-            Stmt::ComputedGoto {
-                labels: two(alloc, 10, 20)?,
-                index: variable(b"K")?,
-            },
-        ),
-        // IF(K)1,2,3
-        (
-            1,
-            Stmt::ArithmeticIf {
-                value: variable(b"K")?,
-                negative: 1,
-                zero: 2,
-                positive: 3,
-            },
-        ),
-        // IF(L.AND.M)A(I)=1
-        (
-            5,
-            Stmt::LogicalIf {
-                condition,
-                inner: Boxed::new(alloc, inner)?,
-            },
-        ),
-        // IF(.TRUE.)THEN
-        (1, Stmt::BlockIf(Expr::Truth(true))),
-        // ELSEIF(L)THEN
-        (1, Stmt::ElseIf(variable(b"L")?)),
-        // CALL S
-        (
-            1,
-            Stmt::Call {
-                name: name(b"S")?,
-                args: Items::new(alloc),
-            },
-        ),
-        // CALL S(1,X)
-        (
-            3,
-            Stmt::Call {
-                name: name(b"S")?,
-                args: two(alloc, Expr::Int(1), variable(b"X")?)?,
-            },
-        ),
-    ];
-    check(&rt, &rows);
-    Ok(())
+fn operands_of_operators(rt: HostRuntime) {
+    let to = Trees {
+        rt: &rt,
+        alloc: rt.alloc(),
+    };
+    to.check("X=1", 2, to.set(Expr::Int(1)));
+    to.check("X='X Y'", 2, to.set(Expr::Chars(to.characters())));
+    to.check("X=(1)", 2, to.set(Expr::Paren(to.boxed(Expr::Int(1)))));
+    let negated = Expr::Unary(Op::Not, to.boxed(to.variable(b"L")));
+    to.check("X=.NOT.L", 2, to.set(negated));
+    let sum = to.joined(Op::Sub, to.variable(b"X"), Expr::Int(1));
+    to.check(
+        "X=Y**(X-1)",
+        4,
+        to.set(to.joined(Op::Pow, to.variable(b"Y"), sum)),
+    );
 }
 
 #[test]
-fn operands_of_items(rt: HostRuntime) -> Result<(), Fail> {
-    let alloc = rt.alloc();
-    let element = Expr::Ref(with(b"A", two(alloc, variable(b"I")?, variable(b"J")?)?)?);
+fn operands_of_control_statements(rt: HostRuntime) {
+    let to = Trees {
+        rt: &rt,
+        alloc: rt.alloc(),
+    };
+    let control = to.control(b"I", to.variable(b"N"), Some(Expr::Int(2)));
+    to.check(
+        "DO 10 I=1,N,2",
+        4,
+        Stmt::Do {
+            terminal: 10,
+            control,
+        },
+    );
+    let control = to.control(b"I", Expr::Int(9), None);
+    to.check(
+        "DO 10 I=1,9",
+        3,
+        Stmt::Do {
+            terminal: 10,
+            control,
+        },
+    );
+    to.check("CONTINUE", 0, Stmt::Continue);
+    to.check("RETURN", 0, Stmt::Return);
+    to.check("ELSE", 0, Stmt::Else);
+    to.check("ENDIF", 0, Stmt::EndIf);
+    to.check("END", 0, Stmt::End);
+    to.check("STOP", 0, Stmt::Stop(None));
+    to.check("STOP 77", 1, Stmt::Stop(Some(StopCode::Digits(77))));
+    to.check(
+        "STOP 'X Y'",
+        1,
+        Stmt::Stop(Some(StopCode::Chars(to.characters()))),
+    );
+    to.check("GOTO 10", 0, Stmt::Goto(10));
+    let labels = to.two(10, 20);
+    to.check(
+        "GOTO(10,20),K",
+        1,
+        Stmt::ComputedGoto {
+            labels,
+            index: to.variable(b"K"),
+        },
+    );
+    let value = to.variable(b"K");
+    to.check(
+        "IF(K)1,2,3",
+        1,
+        Stmt::ArithmeticIf {
+            value,
+            negative: 1,
+            zero: 2,
+            positive: 3,
+        },
+    );
+    let condition = to.joined(Op::And, to.variable(b"L"), to.variable(b"M"));
+    let inner = to.boxed(to.set(Expr::Int(1)));
+    to.check("IF(L.AND.M)X=1", 4, Stmt::LogicalIf { condition, inner });
+    to.check("IF(.TRUE.)THEN", 1, Stmt::BlockIf(Expr::Truth(true)));
+    to.check("ELSEIF(L)THEN", 1, Stmt::ElseIf(to.variable(b"L")));
+}
+
+#[test]
+fn operands_of_calls_and_items(rt: HostRuntime) {
+    let to = Trees {
+        rt: &rt,
+        alloc: rt.alloc(),
+    };
+    to.check(
+        "CALL S",
+        1,
+        Stmt::Call {
+            name: to.name(b"S"),
+            args: to.none(),
+        },
+    );
+    let args = to.two(Expr::Int(1), to.variable(b"X"));
+    to.check(
+        "CALL S(1,X)",
+        3,
+        Stmt::Call {
+            name: to.name(b"S"),
+            args,
+        },
+    );
+    to.check("PRINT*", 0, Stmt::Print(to.none()));
+    let element = Expr::Ref(to.with(b"A", to.two(to.variable(b"I"), to.variable(b"J"))));
     let row = Item::Implied(
-        one(alloc, Item::Plain(element))?,
-        control(b"I", Expr::Int(2), None)?,
+        to.one(Item::Plain(element)),
+        to.control(b"I", Expr::Int(2), None),
     );
-    let rows = Item::Implied(
-        one(alloc, row)?,
-        control(b"J", Expr::Int(3), Some(variable(b"K")?))?,
+    let control = to.control(b"J", Expr::Int(3), Some(to.variable(b"K")));
+    let rows = Item::Implied(to.one(row), control);
+    let text = Item::Plain(Expr::Chars(to.characters()));
+    to.check(
+        "PRINT*,'X Y',((A(I,J),I=1,2),J=1,3,K)",
+        11,
+        Stmt::Print(to.two(text, rows)),
     );
-    let text = Item::Plain(Expr::Chars(characters(alloc)?));
-    let rows = [
-        // PRINT*
-        (0, Stmt::Print(Items::new(alloc))),
-        // PRINT*,'X Y',((A(I,J),I=1,2),J=1,3,K)
-        (11, Stmt::Print(two(alloc, text, rows)?)),
-        // READ*,X,Y
-        (
-            2,
-            Stmt::Read(two(
-                alloc,
-                Item::Plain(variable(b"X")?),
-                Item::Plain(variable(b"Y")?),
-            )?),
-        ),
-    ];
-    check(&rt, &rows);
-    Ok(())
+    let items = to.two(
+        Item::Plain(to.variable(b"X")),
+        Item::Plain(to.variable(b"Y")),
+    );
+    to.check("READ*,X,Y", 2, Stmt::Read(items));
 }
 
 #[test]
-fn operands_of_headings_and_types(rt: HostRuntime) -> Result<(), Fail> {
-    let alloc = rt.alloc();
-    let five = TypeSpec::Character(Some(Length::Digits(5)));
-    let dummies = two(alloc, name(b"X")?, name(b"Y")?)?;
-    let typed = two(
-        alloc,
-        TypedDeclarator {
-            declarator: declared(alloc, b"C")?,
-            length: None,
+fn operands_of_headings(rt: HostRuntime) {
+    let to = Trees {
+        rt: &rt,
+        alloc: rt.alloc(),
+    };
+    let name = to.name(b"S");
+    to.check("PROGRAM S", 1, Stmt::Program(to.name(b"S")));
+    to.check(
+        "SUBROUTINE S",
+        1,
+        Stmt::Subroutine {
+            name,
+            dummies: to.none(),
         },
-        TypedDeclarator {
-            declarator: array(alloc, b"D", None, Some(Expr::Int(4)))?,
-            length: Some(Length::Paren(variable(b"N")?)),
+    );
+    let dummies = to.two(to.name(b"X"), to.name(b"X"));
+    to.check(
+        "SUBROUTINE S(X,X)",
+        3,
+        Stmt::Subroutine {
+            name: to.name(b"S"),
+            dummies,
         },
-    )?;
-    let adjustable = TypedDeclarator {
-        declarator: array(alloc, b"A", Some(Expr::Int(0)), None)?,
+    );
+    let name = to.name(b"F");
+    to.check(
+        "FUNCTION F()",
+        1,
+        Stmt::Function {
+            typ: None,
+            name,
+            dummies: to.none(),
+        },
+    );
+    let typ = Some(TypeSpec::Character(Some(Length::Digits(5))));
+    let dummies = to.two(to.name(b"X"), to.name(b"Y"));
+    to.check(
+        "CHARACTER*5FUNCTION F(X,Y)",
+        4,
+        Stmt::Function {
+            typ,
+            name: to.name(b"F"),
+            dummies,
+        },
+    );
+}
+
+#[test]
+fn operands_of_declarations(rt: HostRuntime) {
+    let to = Trees {
+        rt: &rt,
+        alloc: rt.alloc(),
+    };
+    let scalar = TypedDeclarator {
+        declarator: to.declared(b"C"),
         length: None,
     };
-    let letters = one(
-        alloc,
-        LetterRange {
-            first: b'A',
-            last: Some(b'C'),
-        },
-    )?;
-    let implicit = ImplicitRule {
-        typ: TypeSpec::Character(Some(Length::Digits(3))),
-        letters,
+    let array = TypedDeclarator {
+        declarator: to.array(b"D", None, Some(Expr::Int(4))),
+        length: Some(Length::Paren(to.variable(b"N"))),
     };
-    let letters = one(
-        alloc,
-        LetterRange {
-            first: b'L',
-            last: None,
+    let entities = to.two(scalar, array);
+    let typ = TypeSpec::Character(Some(Length::Asterisk));
+    to.check(
+        "CHARACTER*(*)C,D(4)*(N)",
+        4,
+        Stmt::Declare { typ, entities },
+    );
+    let declarator = to.array(b"A", Some(Expr::Int(0)), None);
+    let entities = to.one(TypedDeclarator {
+        declarator,
+        length: None,
+    });
+    to.check(
+        "INTEGER A(0:*)",
+        2,
+        Stmt::Declare {
+            typ: TypeSpec::Integer,
+            entities,
         },
-    )?;
-    let logical = ImplicitRule {
+    );
+    let letters = to.one(LetterRange {
+        first: b'A',
+        last: Some(b'C'),
+    });
+    let typ = TypeSpec::Character(Some(Length::Digits(3)));
+    let first = ImplicitRule { typ, letters };
+    let letters = to.one(LetterRange {
+        first: b'L',
+        last: None,
+    });
+    let second = ImplicitRule {
         typ: TypeSpec::Logical,
         letters,
     };
-    let rows = [
-        // PROGRAM P
-        (1, Stmt::Program(name(b"P")?)),
-        // SUBROUTINE S
-        (
-            1,
-            Stmt::Subroutine {
-                name: name(b"S")?,
-                dummies: Items::new(alloc),
-            },
-        ),
-        // SUBROUTINE S(X,X)
-        (
-            3,
-            Stmt::Subroutine {
-                name: name(b"S")?,
-                dummies: two(alloc, name(b"X")?, name(b"X")?)?,
-            },
-        ),
-        // FUNCTION F()
-        (
-            1,
-            Stmt::Function {
-                typ: None,
-                name: name(b"F")?,
-                dummies: Items::new(alloc),
-            },
-        ),
-        // CHARACTER*5FUNCTION F(X,Y)
-        (
-            4,
-            Stmt::Function {
-                typ: Some(five),
-                name: name(b"F")?,
-                dummies,
-            },
-        ),
-        // CHARACTER*(*)C,D(4)*(N)
-        (
-            4,
-            Stmt::Declare {
-                typ: TypeSpec::Character(Some(Length::Asterisk)),
-                entities: typed,
-            },
-        ),
-        // INTEGER A(0:*)
-        (
-            2,
-            Stmt::Declare {
-                typ: TypeSpec::Integer,
-                entities: one(alloc, adjustable)?,
-            },
-        ),
-        // IMPLICIT CHARACTER*3(A-C),LOGICAL(L)
-        (1, Stmt::Implicit(two(alloc, implicit, logical)?)),
-    ];
-    check(&rt, &rows);
-    Ok(())
+    to.check(
+        "IMPLICIT CHARACTER*3(A-C),LOGICAL(L)",
+        1,
+        Stmt::Implicit(to.two(first, second)),
+    );
+    let array = to.array(b"A", None, Some(Expr::Int(2)));
+    let other = to.array(b"B", Some(Expr::Int(0)), Some(Expr::Int(1)));
+    to.check(
+        "DIMENSION A(2),B(0:1)",
+        5,
+        Stmt::Dimension(to.two(array, other)),
+    );
 }
 
 #[test]
-fn operands_of_specifications(rt: HostRuntime) -> Result<(), Fail> {
-    let alloc = rt.alloc();
+fn operands_of_other_specifications(rt: HostRuntime) {
+    let to = Trees {
+        rt: &rt,
+        alloc: rt.alloc(),
+    };
     let blank = CommonGroup {
         block: None,
-        members: one(alloc, declared(alloc, b"A")?)?,
+        members: to.one(to.declared(b"A")),
     };
-    let members = two(
-        alloc,
-        declared(alloc, b"B")?,
-        array(alloc, b"C", None, Some(Expr::Int(3)))?,
-    )?;
+    let members = to.two(to.declared(b"B"), to.array(b"C", None, Some(Expr::Int(3))));
     let block = CommonGroup {
-        block: Some(name(b"X")?),
+        block: Some(to.name(b"X")),
         members,
     };
-    let element = with(b"A", one(alloc, Expr::Int(1))?)?;
-    let equivalence = EquivalenceGroup {
-        members: two(alloc, element, plain(b"B")?)?,
+    to.check("COMMON A,/X/B,C(3)", 5, Stmt::Common(to.two(blank, block)));
+    let members = to.two(to.with(b"A", to.one(Expr::Int(1))), to.plain(b"B"));
+    to.check(
+        "EQUIVALENCE(A(1),B)",
+        3,
+        Stmt::Equivalence(to.one(EquivalenceGroup { members })),
+    );
+    let first = NamedConstant {
+        name: to.name(b"N"),
+        value: Expr::Int(5),
     };
-    let product = joined(alloc, Op::Mul, variable(b"N")?, Expr::Int(2))?;
-    let named = two(
-        alloc,
-        NamedConstant {
-            name: name(b"N")?,
-            value: Expr::Int(5),
-        },
-        NamedConstant {
-            name: name(b"M")?,
-            value: product,
-        },
-    )?;
-    let arrays = two(
-        alloc,
-        array(alloc, b"A", None, Some(Expr::Int(2)))?,
-        array(alloc, b"B", Some(Expr::Int(0)), Some(Expr::Int(1)))?,
-    )?;
-    let saved = two(
-        alloc,
-        SaveEntry::Entity(name(b"A")?),
-        SaveEntry::Block(name(b"X")?),
-    )?;
-    let rows = [
-        // DIMENSION A(2),B(0:1)
-        (5, Stmt::Dimension(arrays)),
-        // COMMON A,/X/B,C(3)
-        (5, Stmt::Common(two(alloc, blank, block)?)),
-        // EQUIVALENCE(A(1),B)
-        (3, Stmt::Equivalence(one(alloc, equivalence)?)),
-        // PARAMETER(N=5,M=N*2)
-        (5, Stmt::Parameter(named)),
-        // SAVE
-        (0, Stmt::Save(Items::new(alloc))),
-        // SAVE A,/X/
-        (2, Stmt::Save(saved)),
-    ];
-    check(&rt, &rows);
-    Ok(())
+    let value = to.joined(Op::Mul, to.variable(b"N"), Expr::Int(2));
+    let second = NamedConstant {
+        name: to.name(b"M"),
+        value,
+    };
+    to.check(
+        "PARAMETER(N=5,M=N*2)",
+        5,
+        Stmt::Parameter(to.two(first, second)),
+    );
+    to.check("SAVE", 0, Stmt::Save(to.none()));
+    let saved = to.two(
+        SaveEntry::Entity(to.name(b"A")),
+        SaveEntry::Block(to.name(b"X")),
+    );
+    to.check("SAVE A,/X/", 2, Stmt::Save(saved));
 }
 
 #[test]
-fn operands_of_data(rt: HostRuntime) -> Result<(), Fail> {
-    let alloc = rt.alloc();
+fn operands_of_data(rt: HostRuntime) {
+    let to = Trees {
+        rt: &rt,
+        alloc: rt.alloc(),
+    };
     let zeros = DataValue {
         repeat: Some(Repeat::Digits(3)),
         constant: Constant::Int(0),
     };
-    let array = DataGroup {
-        targets: one(alloc, plain(b"A")?)?,
-        values: one(alloc, zeros)?,
+    let group = DataGroup {
+        targets: to.one(to.plain(b"A")),
+        values: to.one(zeros),
     };
-    let element = with(b"B", one(alloc, Expr::Int(1))?)?;
+    to.check("DATA A/3*0/", 3, Stmt::Init(to.one(group)));
     let minus = DataValue {
         repeat: None,
         constant: Constant::Int(-1),
     };
+    let repeat = Some(Repeat::Named(to.name(b"N")));
     let texts = DataValue {
-        repeat: Some(Repeat::Named(name(b"N")?)),
-        constant: Constant::Chars(characters(alloc)?),
+        repeat,
+        constant: Constant::Chars(to.characters()),
     };
-    let both = DataGroup {
-        targets: two(alloc, plain(b"A")?, element)?,
-        values: two(alloc, minus, texts)?,
+    let targets = to.two(to.plain(b"A"), to.with(b"B", to.one(Expr::Int(1))));
+    let first = DataGroup {
+        targets,
+        values: to.two(minus, texts),
     };
     let truth = DataValue {
         repeat: None,
@@ -481,20 +496,15 @@ fn operands_of_data(rt: HostRuntime) -> Result<(), Fail> {
     };
     let named = DataValue {
         repeat: None,
-        constant: Constant::Named(name(b"M")?),
+        constant: Constant::Named(to.name(b"M")),
     };
-    let others = DataGroup {
-        targets: two(alloc, plain(b"L")?, plain(b"K")?)?,
-        values: two(alloc, truth, named)?,
+    let targets = to.two(to.plain(b"L"), to.plain(b"K"));
+    let second = DataGroup {
+        targets,
+        values: to.two(truth, named),
     };
-    let rows = [
-        // DATA A/3*0/
-        (3, Stmt::Init(one(alloc, array)?)),
-        // DATA A,B(1)/-1,N*'X Y'/,L,K/.TRUE.,M/
-        (10, Stmt::Init(two(alloc, both, others)?)),
-    ];
-    check(&rt, &rows);
-    Ok(())
+    let text = "DATA A,B(1)/-1,N*'X Y'/,L,K/.TRUE.,M/";
+    to.check(text, 10, Stmt::Init(to.two(first, second)));
 }
 
 /// Files, and the line at which each is refused, with `;` between: `needs>line`. A number is the need of a statement; a
@@ -526,7 +536,7 @@ fn needing(alloc: Global, need: u32) -> Result<Stmt, Fail> {
         args.push(Expr::Int(1))?;
     }
     Ok(Stmt::Call {
-        name: name(b"S")?,
+        name: Name::new(b"S").ok_or("not a name")?,
         args,
     })
 }
