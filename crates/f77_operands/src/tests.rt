@@ -20,6 +20,7 @@ use std::process::Abort;
 use std::test::Fail;
 
 /// Makes parts of trees. Where there is no memory it ends the test.
+#[derive(Drop)]
 struct Trees<'a, A: Abort> {
     rt: &'a A,
     alloc: Global,
