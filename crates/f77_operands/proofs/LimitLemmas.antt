@@ -1,13 +1,13 @@
 -- Where the limit is passed, unit by unit and statement by statement.
-use Rattle.std.proofs.Common.{◌≡◌, ◌↔◌, ℕ, ◌+◌, ◌<◌, ◌≤◌, max, Bool, true, false, cond, List, [], ◌∷◌, ◌++◌, Option, None, Some, option_map, refl, sym, ap, ◌∙◌, subst, arith, rules}
+use Rattle.std.proofs.Common.{◌≡◌, ℕ, ◌+◌, ◌<◌, ◌≤◌, max, Bool, true, false, cond, List, [], ◌∷◌, ◌++◌, Option, None, Some, option_map, refl, ap, ◌∙◌, subst, arith}
 use Rattle.std.proofs.lemmas.Bool.Decides.{nat_tests}
 use Rattle.std.proofs.lemmas.List.Sums.{sum_by-cons}
-use Rattle.std.specs.List.{find, fold, sum_by}
+use Rattle.std.specs.List.{find, fold}
 use Rattle.std.specs.Option.{option_or}
 use Rattle.f77_ast.specs.declared.program.Listed.{Listed}
 use Rattle.f77_ast.specs.declared.program.Unit.{Unit as ProgramUnit}
 use Rattle.f77_ast.specs.declared.refusal.Refusal.{Refusal}
-use Rattle.f77_operands.specs.Laws.{needs_of, PassesTheLimit, AcceptedWithinTheLimit, RefusedWhereTheLimitIsPassed}
+use Rattle.f77_operands.specs.Laws.{needs_of, AcceptedWithinTheLimit, RefusedWhereTheLimitIsPassed}
 use Rattle.f77_operands.specs.Limit.{greatest_need, is_past, too_many, unit_refusal, refusal_from, operand_refusal}
 use Rattle.f77_operands.specs.Needs.{need_of}
 

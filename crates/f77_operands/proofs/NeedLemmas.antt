@@ -1,7 +1,6 @@
 -- The needs of trees, level by level.
-use Rattle.std.proofs.Common.{◌≡◌, ℕ, ◌+◌, min, List, map, Option, None, Some, refl, sym, ap, ◌∙◌, arith}
+use Rattle.std.proofs.Common.{◌≡◌, ℕ, ◌+◌, List, Option, None, Some, sym, ap, ◌∙◌, arith}
 use Rattle.std.proofs.lemmas.List.Sums.{sum-map}
-use Rattle.std.specs.List.{sum_by}
 use Rattle.f77_ast.specs.declared.expr.Expr.{Expr}
 use Rattle.f77_ast.specs.declared.expr.Expr.TheFolds.{fold-Part, fold-roll-Part, fold-roll-Ref}
 use Rattle.f77_ast.specs.declared.expr.Part.{Part, out-Part, roll-Part, roll-out-Part}

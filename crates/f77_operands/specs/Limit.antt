@@ -1,5 +1,5 @@
 -- The limit on the operands of a program; it is this project's own.
-use Rattle.std.specs.Prelude.{ℕ, ◌+◌, max, Bool, nat_lt, List, [], ◌∷◌, Option, None, Some, find, fold, option_map}
+use Rattle.std.specs.Prelude.{ℕ, ◌+◌, max, Bool, nat_lt, List, [], ◌∷◌, Option, None, find, fold, option_map}
 use Rattle.std.specs.Option.{option_or}
 use Rattle.f77_ast.specs.declared.program.Listed.{Listed}
 use Rattle.f77_ast.specs.declared.program.Unit.{Unit as ProgramUnit}

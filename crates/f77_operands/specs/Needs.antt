@@ -6,7 +6,8 @@
 -- SAVE, a constant or a repeat by its name in DATA, and the names of PROGRAM, SUBROUTINE, FUNCTION and CALL; a constant
 -- and a repeat in DATA; the digits of a CHARACTER length; the digits or the character constant of STOP.
 -- So `A(I)` counts 2 and `C(2:3)` counts 3. A sign of a constant in DATA is part of the constant. Operators, labels,
--- asterisks and the letters of IMPLICIT count nothing. A logical IF is one statement with the statement that it holds.
+-- asterisks and the letters of IMPLICIT count nothing, and neither, so far, do the lengths of character operands. A
+-- logical IF is one statement with the statement that it holds.
 use Rattle.std.specs.Prelude.{ℕ, ◌+◌, List, length, sum, sum_by, Option, None, Some}
 use Rattle.f77_ast.specs.declared.expr.Expr.{Expr}
 use Rattle.f77_ast.specs.declared.expr.Expr.TheFolds.{fold-Expr, fold-Ref}
