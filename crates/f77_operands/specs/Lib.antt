@@ -1,0 +1,4 @@
+pub mod Capped
+pub mod Laws
+pub mod Limit
+pub mod Needs

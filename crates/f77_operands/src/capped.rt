@@ -1,0 +1,33 @@
+//! Numbers of operands that don't wrap: one past the limit is kept as one more than may be.
+ghost use Rattle.std.specs.Prelude.{◌≡◌, ◌+◌, length};
+ghost use Rattle.f77_operands.specs.Capped.{capped};
+ghost use Rattle.f77_operands.specs.Needs.{one_if};
+
+/// The greatest number of operands of a file.
+pub const MOST_OPERANDS: u32 = 32_768;
+
+/// Two numbers together.
+pub fn plus(one: u32, other: u32) -> u32
+    ensures { result ≡ capped (one + other) }
+{
+    one.saturating_add(other).min(MOST_OPERANDS + 1)
+}
+
+/// The number of items of a list.
+pub fn count<T>(list: &[T]) -> u32
+    ensures { result ≡ capped (length list.now) }
+{
+    u32::try_from(list.len())
+        .unwrap_or(MOST_OPERANDS + 1)
+        .min(MOST_OPERANDS + 1)
+}
+
+/// One for what may be there.
+pub fn one_if<T>(part: &Option<T>) -> u32
+    ensures { result ≡ one_if part.now }
+{
+    match part {
+        None => 0,
+        Some(_) => 1,
+    }
+}

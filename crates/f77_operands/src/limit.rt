@@ -1,0 +1,61 @@
+//! The limit on the operands of a program; it is this project's own.
+ghost use Rattle.std.specs.Prelude.{◌≡◌, ◌≤◌, ◌+◌, Some, nat_lt, IfOk, IfErr};
+ghost use Rattle.f77_operands.specs.Capped.{IsWithin};
+ghost use Rattle.f77_operands.specs.Limit.{too_many, unit_refusal, operand_refusal};
+
+use crate::capped::{MOST_OPERANDS, plus};
+use crate::needs::operand_need;
+use f77_ast::program::{Listed, Unit};
+use f77_ast::refusal::Refusal;
+
+/// The code of a file with too many operands.
+const SIZE_LIMIT: u8 = 56;
+
+/// Whether the limit is passed at a statement of this need, where the needs of the units before come to so many.
+fn is_past(others: u32, need: u32) -> bool
+    ensures { result ≡ nat_lt 32768 (others + need) }
+{
+    plus(others, need) > MOST_OPERANDS
+}
+
+/// The refusal of a statement at which the limit is passed.
+fn too_many(listed: &Listed) -> Refusal
+    ensures { result ≡ too_many listed.now }
+{
+    Refusal {
+        line: listed.card.line,
+        code: SIZE_LIMIT,
+    }
+}
+
+/// The need of a unit, or the refusal of its first statement at which the limit is passed, where the needs of the units
+/// before come to so many.
+fn unit_need(others: u32, listing: &[Listed]) -> Result<u32, Refusal>
+    requires { others ≤ 32768 }
+    ensures within { IfOk result (λ need. IsWithin others listing.now need) }
+    ensures past { IfErr result (λ refusal. unit_refusal others listing.now ≡ Some refusal) }
+{
+    let mut greatest = 0;
+    for listed in listing {
+        let need = operand_need(&listed.stmt);
+        if is_past(others, need) {
+            return Err(too_many(listed));
+        }
+        greatest = greatest.max(need);
+    }
+    Ok(greatest)
+}
+
+/// Code 56: the first statement of a file at which the greatest needs of its units so far come to more than 32,768.
+pub fn too_many_operands(units: &[Unit]) -> Option<Refusal>
+    ensures value { result ≡ operand_refusal units.now }
+{
+    let mut others = 0;
+    for unit in units {
+        match unit_need(others, unit.listing.as_slice()) {
+            Ok(need) => others += need,
+            Err(refusal) => return Some(refusal),
+        }
+    }
+    None
+}
