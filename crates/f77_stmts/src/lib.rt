@@ -15,7 +15,5 @@ pub mod rows;
 pub mod specifications;
 pub mod statement;
 pub mod stmt;
-#[cfg(test)]
-mod tests;
 pub mod transfers;
 pub mod typed;

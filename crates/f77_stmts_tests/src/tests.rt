@@ -1,6 +1,5 @@
 //! What no clause says: statements and refusals worked out by hand.
 
-use crate::stmt::stmt;
 use f77_ast::expr::{Expr, Op, Part, Ref};
 use f77_ast::initial::{Constant, DataGroup, DataValue, Repeat};
 use f77_ast::name::Name;
@@ -16,6 +15,7 @@ use hyb_base::decimal::print_i64;
 use hyb_base::no_memory::NoMemory;
 use hyb_base::ops::Rel;
 use sqlite_items::{Boxed, Items};
+use f77_stmts::stmt::stmt;
 use std::alloc::Global;
 use std::process::Abort;
 use std::test::Fail;
