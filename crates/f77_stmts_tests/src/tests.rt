@@ -10,12 +10,12 @@ use f77_ast::specification::{
     TypedDeclarator,
 };
 use f77_ast::stmt::{Item, Label, LoopControl, Stmt, StopCode};
+use f77_stmts::stmt::stmt;
 use hyb_base::bytes::Bytes;
 use hyb_base::decimal::print_i64;
 use hyb_base::no_memory::NoMemory;
 use hyb_base::ops::Rel;
 use sqlite_items::{Boxed, Items};
-use f77_stmts::stmt::stmt;
 use std::alloc::Global;
 use std::process::Abort;
 use std::test::Fail;
