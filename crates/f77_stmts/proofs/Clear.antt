@@ -3,7 +3,7 @@ use Rattle.std.proofs.Common.{◌≡◌, Bool, true, false, refl}
 use Rattle.f77_stmts.specs.declared.keyword.Keyword.{Keyword}
 use Rattle.f77_stmts.specs.declared.keyword.Keyword.TheVariants as word
 use Rattle.f77_stmts.specs.Rows.{assignment, three_labels, rule}
-use Rattle.f77_stmts.proofs.Forms.{is_clear}
+use Rattle.f77_forms.proofs.Forms.{is_clear}
 
 pub assignment_is_clear : is_clear assignment ≡ true
 assignment_is_clear = refl

@@ -14,12 +14,12 @@ use Rattle.f77_exprs.proofs.Complete.{bind, eats_no, closing}
 use Rattle.f77_exprs.proofs.Induction.{starts, expr_is_read}
 use Rattle.f77_exprs.proofs.Primaries.{name_read}
 use Rattle.f77_exprs.proofs.Turns.{no_more}
-use Rattle.f77_stmts.specs.Form.{read}
-use Rattle.f77_stmts.specs.Form as form
+use Rattle.f77_forms.specs.Form.{read}
+use Rattle.f77_forms.specs.Form as form
 use Rattle.f77_stmts.specs.Rows.{assignment}
 use Rattle.f77_stmts.specs.Statement.{condition}
-use Rattle.f77_stmts.proofs.Forms.{next, complete}
-use Rattle.f77_stmts.proofs.LeafLemmas.{Next, read_reference}
+use Rattle.f77_forms.proofs.Forms.{next, complete}
+use Rattle.f77_forms.proofs.LeafLemmas.{Next, read_reference}
 
 -- an IF with its condition, as a reference is read
 if_reference : (d : ℕ) (a : Expr) (s t : Text) → length s < d → Spells whole a s → sees 40 t ≡ false → reference (expr_within d) (codes "IF(" ++ (s ++ 41 ∷ t)) ≡ Some (reference_of (codes "IF") (Some (a ∷ [])) None, t)

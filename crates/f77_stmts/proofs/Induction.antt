@@ -20,14 +20,14 @@ use Rattle.f77_stmts.specs.declared.keyword.Keyword.{Keyword}
 use Rattle.f77_stmts.specs.declared.keyword.Keyword.TheVariants as word
 use Rattle.f77_stmts.specs.Answer.{Answers}
 use Rattle.f77_stmts.specs.Cause.{code_of}
-use Rattle.f77_stmts.specs.Form.{Spells, passes, read}
+use Rattle.f77_forms.specs.Form.{Spells, passes, read}
 use Rattle.f77_stmts.specs.Rows.{spelling, keywords, is_action, is_here, keyword_at, assignment, three_labels, jumps, rule}
-use Rattle.f77_stmts.specs.Seek.{seek}
+use Rattle.f77_forms.specs.Seek.{seek}
 use Rattle.f77_stmts.specs.Spelling.{SpellsAction, assign, action, arithmetic_if, SpellsStmt, simple, row, block_if, logical_if}
 use Rattle.f77_stmts.specs.Statement.{whole, or_else, condition, behind_word, begun, by_word, arithmetic, jumps_behind, if_by, is_if, action_within, is_then, any_behind, statement_within, statement_of}
-use Rattle.f77_stmts.proofs.Forms.{head, complete, sound, Front}
+use Rattle.f77_forms.proofs.Forms.{head, complete, sound, Front}
 use Rattle.f77_stmts.proofs.IfLemmas.{if_unassigned, condition_read}
-use Rattle.f77_stmts.proofs.LeafLemmas.{shape}
+use Rattle.f77_forms.proofs.LeafLemmas.{shape}
 use Rattle.f77_stmts.proofs.RowLemmas.{row_complete, row_sound, keyword_found, no_if, assigned, row_unassigned}
 
 -- ---- whole texts

@@ -1,11 +1,4 @@
 pub mod Clear
-pub mod CommonTurns
-pub mod Forms
 pub mod IfLemmas
 pub mod Induction
-pub mod ItemLemmas
-pub mod ItemTurns
-pub mod LeafLemmas
 pub mod RowLemmas
-pub mod SeekLemmas
-pub mod Turns

@@ -12,16 +12,16 @@ use Rattle.f77_exprs.proofs.Primaries.{other, digit_first}
 use Rattle.f77_exprs.proofs.Sound.{Holds, holds_bind, holds_weak}
 use Rattle.f77_stmts.specs.declared.keyword.Keyword.{Keyword}
 use Rattle.f77_stmts.specs.declared.keyword.Keyword.TheVariants as word
-use Rattle.f77_stmts.specs.Form.{after, past, Spells, passes, expect_word, read}
-use Rattle.f77_stmts.specs.Parts.{is_any, control}
-use Rattle.f77_stmts.specs.Items.{SpellsItems, items_within}
+use Rattle.f77_forms.specs.Form.{after, past, Spells, passes, expect_word, read}
+use Rattle.f77_parts.specs.Parts.{is_any, control}
+use Rattle.f77_parts.specs.Items.{SpellsItems, items_within}
 use Rattle.f77_stmts.specs.Rows.{spelling, keyword_at, assignment, printed, written, rule}
 use Rattle.f77_stmts.specs.Statement.{is_if}
-use Rattle.f77_stmts.specs.Seek.{seek}
+use Rattle.f77_forms.specs.Seek.{seek}
 use Rattle.f77_stmts.proofs.Clear.{is_plain, rule_is_clear}
-use Rattle.f77_stmts.proofs.Forms.{complete, sound, Front, word_sound}
-use Rattle.f77_stmts.proofs.ItemLemmas.{control_text, items_quiet, complete_items, items_sound, items_filled}
-use Rattle.f77_stmts.proofs.SeekLemmas.{passes as scans, passes_name, passes_digits, rise, rises}
+use Rattle.f77_forms.proofs.Forms.{complete, sound, Front, word_sound}
+use Rattle.f77_parts.proofs.ItemLemmas.{control_text, items_quiet, complete_items, items_sound, items_filled}
+use Rattle.f77_forms.proofs.SeekLemmas.{passes as scans, passes_name, passes_digits, rise, rises}
 
 -- ---- what is spelled is read
 

@@ -1,10 +1,6 @@
 pub mod Answer
 pub mod Cause
-pub mod Form
-pub mod Items
 pub mod Laws
-pub mod Parts
 pub mod Rows
-pub mod Seek
 pub mod Spelling
 pub mod Statement

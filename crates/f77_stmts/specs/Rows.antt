@@ -11,9 +11,9 @@ use Rattle.f77_stmts.specs.declared.keyword.Keyword.{Keyword}
 use Rattle.f77_stmts.specs.declared.keyword.Keyword.TheVariants as word
 use Rattle.f77_stmts.specs.declared.typed.Typed.{Typed}
 use Rattle.f77_stmts.specs.declared.typed.Typed.TheVariants as typed
-use Rattle.f77_stmts.specs.Form.{Form, nothing, after, before, past, pair, made, either, by_first, list, an_expr, a_ref, a_name, a_label}
-use Rattle.f77_stmts.specs.Items.{some_items}
-use Rattle.f77_stmts.specs.Parts.{is_any, control, dummies, dummy_list, argument_list, stop_codes, len, entity, text_entity, array, common_groups, group, named, implicit_rule, save_entries, data_groups}
+use Rattle.f77_forms.specs.Form.{Form, nothing, after, before, past, pair, made, either, by_first, list, an_expr, a_ref, a_name, a_label}
+use Rattle.f77_parts.specs.Items.{some_items}
+use Rattle.f77_parts.specs.Parts.{is_any, control, dummies, dummy_list, argument_list, stop_codes, len, entity, text_entity, array, common_groups, group, named, implicit_rule, save_entries, data_groups}
 
 -- the first words, in the order of their search
 abbrev pub keywords : List Keyword

@@ -7,7 +7,7 @@ use Rattle.f77_ast.specs.declared.stmt.Stmt.TheVariants as stmt
 use Rattle.f77_exprs.specs.Operators.{Text}
 use Rattle.f77_exprs.specs.Spelling.{SpellsExpr}
 use Rattle.f77_stmts.specs.declared.keyword.Keyword.{Keyword}
-use Rattle.f77_stmts.specs.Form.{Spells}
+use Rattle.f77_forms.specs.Form.{Spells}
 use Rattle.f77_stmts.specs.Rows.{spelling, is_action, assignment, three_labels, jumps, rule}
 
 -- the statements that a logical IF may hold: Assign, Continue, Goto, ComputedGoto, ArithmeticIf, Call, Return, Stop, Print

@@ -7,7 +7,7 @@ use Rattle.f77_ast.specs.declared.stmt.Stmt.TheVariants as stmt
 use Rattle.f77_exprs.specs.Operators.{Text, begins}
 use Rattle.f77_exprs.specs.Reading.{Outcome, is_empty}
 use Rattle.f77_stmts.specs.declared.keyword.Keyword.{Keyword}
-use Rattle.f77_stmts.specs.Form.{Form, before, an_expr, read, passes}
+use Rattle.f77_forms.specs.Form.{Form, before, an_expr, read, passes}
 use Rattle.f77_stmts.specs.Rows.{spelling, is_action, keyword_at, assignment, three_labels, jumps, rule}
 
 -- the tree of an outcome after which no text is left

@@ -2,10 +2,10 @@
 ghost use Rattle.std.specs.Prelude.{◌≡◌, map, false, IfOk};
 ghost use Rattle.f77_stmts.specs.Cause as spec;
 
-use crate::items::is_control;
 use f77_exprs::cause::{Cause, cause_of, is_long_name};
 use f77_exprs::operators::begins;
 use f77_exprs::outside::outside;
+use f77_parts::items::is_control;
 use hyb_base::no_memory::NoMemory;
 use std::alloc::Global;
 

@@ -1,20 +1,20 @@
 //! Statements of control: what stands behind the first word of each (ANSI X3.9-1978, sections 11 and 15.6).
 ghost use Rattle.std.specs.Prelude.{◌≡◌, ◌≤◌, length};
 ghost use Rattle.f77_exprs.specs.Read.{Reads};
-ghost use Rattle.f77_stmts.specs.Form.{read};
-ghost use Rattle.f77_stmts.specs.Parts as parts;
+ghost use Rattle.f77_forms.specs.Form.{read};
+ghost use Rattle.f77_parts.specs.Parts as parts;
 ghost use Rattle.f77_stmts.specs.Rows.{rule};
 ghost use Rattle.f77_stmts.specs.declared.keyword.Keyword.TheVariants as word;
 
-use crate::control::control;
-use crate::leaves::{a_constant, a_label, expect_word, some_digits};
-use crate::list::list;
-use crate::names::{ALabel, argument_list};
-use crate::sees::{sees_any, sees_apostrophe};
 use f77_ast::stmt::{Stmt, StopCode};
 use f77_exprs::grammar::expr_within;
 use f77_exprs::reader::Reader;
 use f77_exprs::unread::Unread;
+use f77_forms::leaves::{a_constant, a_label, expect_word, some_digits};
+use f77_forms::list::list;
+use f77_parts::control::control;
+use f77_parts::names::{ALabel, argument_list};
+use f77_parts::sees::{sees_any, sees_apostrophe};
 use std::alloc::Global;
 
 /// Do: `DO` label [`,`] name `=` expr `,` expr [`,` expr] (ANSI X3.9-1978, section 11.10)

@@ -2,21 +2,21 @@
 //! (ANSI X3.9-1978, sections 8.4, 14.1, 15.5.1 and 15.6.1).
 ghost use Rattle.std.specs.Prelude.{◌≡◌, ◌≤◌, length};
 ghost use Rattle.f77_exprs.specs.Read.{Reads};
-ghost use Rattle.f77_stmts.specs.Form.{read};
+ghost use Rattle.f77_forms.specs.Form.{read};
 ghost use Rattle.f77_stmts.specs.Rows.{rule};
 ghost use Rattle.f77_stmts.specs.Rows as rows;
 ghost use Rattle.f77_stmts.specs.declared.keyword.Keyword.TheVariants as word;
 
-use crate::bounds::{ATextEntity, AnEntity};
-use crate::leaves::expect_word;
-use crate::lengths::len;
-use crate::list::list;
-use crate::names::{dummies, dummy_list};
 use crate::typed::Typed;
 use f77_ast::specification::TypeSpec;
 use f77_ast::stmt::Stmt;
 use f77_exprs::reader::Reader;
 use f77_exprs::unread::Unread;
+use f77_forms::leaves::expect_word;
+use f77_forms::list::list;
+use f77_parts::bounds::{ATextEntity, AnEntity};
+use f77_parts::lengths::len;
+use f77_parts::names::{dummies, dummy_list};
 use std::alloc::Global;
 
 /// Program: `PROGRAM` name (ANSI X3.9-1978, section 14.1)

@@ -6,27 +6,14 @@
 //! says. Proved to be what the table spells, for every row.
 #![tactic(auto)]
 
-pub mod bounds;
 pub mod cause;
-pub mod common;
-pub mod control;
-pub mod data;
 pub mod flow;
 pub mod headings;
-pub mod items;
 pub mod keyword;
 pub mod laws;
-pub mod leaves;
-pub mod lengths;
-pub mod list;
-pub mod names;
 pub mod rows;
-pub mod seek;
-pub mod sees;
-pub mod shared;
 pub mod specifications;
 pub mod statement;
 pub mod stmt;
-#[cfg(test)]
-mod tests;
+pub mod transfers;
 pub mod typed;

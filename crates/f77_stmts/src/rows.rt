@@ -1,14 +1,14 @@
 //! The rows of the table of statements, by the first word.
 ghost use Rattle.std.specs.Prelude.{◌≡◌, ◌≤◌, length};
 ghost use Rattle.f77_exprs.specs.Read.{Reads};
-ghost use Rattle.f77_stmts.specs.Form.{read};
+ghost use Rattle.f77_forms.specs.Form.{read};
 ghost use Rattle.f77_stmts.specs.Rows.{rule};
 
 use crate::flow::{call, computed_goto, else_if, goto, loop_statement, stop};
 use crate::headings::{character, function, integer, logical, program, subroutine};
-use crate::items::{print, read_list, read_unit, write};
 use crate::keyword::Keyword;
 use crate::specifications::{common, dimension, equivalence, implicit, init, parameter, save};
+use crate::transfers::{print, read_list, read_unit, write};
 use f77_ast::stmt::Stmt;
 use f77_exprs::reader::Reader;
 use f77_exprs::unread::Unread;

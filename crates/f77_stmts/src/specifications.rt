@@ -1,19 +1,19 @@
 //! Specification statements and DATA: what stands behind the first word of each (ANSI X3.9-1978, sections 8 and 9.1).
 ghost use Rattle.std.specs.Prelude.{◌≡◌, ◌≤◌, length};
 ghost use Rattle.f77_exprs.specs.Read.{Reads};
-ghost use Rattle.f77_stmts.specs.Form.{read};
+ghost use Rattle.f77_forms.specs.Form.{read};
 ghost use Rattle.f77_stmts.specs.Rows.{rule};
 ghost use Rattle.f77_stmts.specs.declared.keyword.Keyword.TheVariants as word;
 
-use crate::bounds::AnArray;
-use crate::common::common_groups;
-use crate::data::data_groups;
-use crate::leaves::expect_word;
-use crate::list::list;
-use crate::shared::{AGroup, ANamed, AnImplicitRule, save_entries};
 use f77_ast::stmt::Stmt;
 use f77_exprs::reader::Reader;
 use f77_exprs::unread::Unread;
+use f77_forms::leaves::expect_word;
+use f77_forms::list::list;
+use f77_parts::bounds::AnArray;
+use f77_parts::common::common_groups;
+use f77_parts::data::data_groups;
+use f77_parts::shared::{AGroup, ANamed, AnImplicitRule, save_entries};
 use std::alloc::Global;
 
 /// Dimension: `DIMENSION` list(name `(` list(bound) `)`) (ANSI X3.9-1978, section 8.1)

@@ -3,20 +3,20 @@ ghost use Rattle.std.specs.Prelude.{◌≡◌, true, false, drop, IfOk, option_m
 ghost use Rattle.f77_ast.specs.declared.stmt.Stmt.TheVariants as stmt;
 ghost use Rattle.f77_exprs.specs.Read.{Reads};
 ghost use Rattle.f77_exprs.specs.Reading.{Outcome};
-ghost use Rattle.f77_stmts.specs.Form.{read};
+ghost use Rattle.f77_forms.specs.Form.{read};
 ghost use Rattle.f77_stmts.specs.Rows as rows;
 ghost use Rattle.f77_stmts.specs.Statement as spec;
 
 use crate::keyword::{Keyword, keyword_at};
-use crate::leaves::{a_label, a_ref, expect_word};
 use crate::rows::behind;
-use crate::sees::sees_digit;
 use f77_ast::expr::Expr;
 use f77_ast::stmt::{Label, Stmt};
 use f77_exprs::grammar::expr_within;
 use f77_exprs::operators::begins;
 use f77_exprs::reader::Reader;
 use f77_exprs::unread::Unread;
+use f77_forms::leaves::{a_label, a_ref, expect_word};
+use f77_parts::sees::sees_digit;
 use hyb_base::no_memory::NoMemory;
 use sqlite_items::Boxed;
 use std::alloc::Global;

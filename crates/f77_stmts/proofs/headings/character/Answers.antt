@@ -1,9 +1,9 @@
 use Rattle.std.proofs.Common.{rules, ◌≡◌, false, ◌∷◌, []}
 use Rattle.f77_exprs.specs.Operators.{begins}
 use Rattle.f77_exprs.specs.Reading.{after_word}
-use Rattle.f77_stmts.specs.Form.{read}
+use Rattle.f77_forms.specs.Form.{read}
 use Rattle.f77_stmts.specs.Rows.{with_length, without_length}
-use Rattle.f77_stmts.proofs.Turns.{reads_else}
+use Rattle.f77_forms.proofs.Turns.{reads_else}
 use Rattle.f77_stmts.proofs.headings.character.Goals as goal
 
 pub returns-else-eat_word-clause-value : goal.returns-else-eat_word-clause-value

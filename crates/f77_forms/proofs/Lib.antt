@@ -1,0 +1,4 @@
+pub mod Forms
+pub mod LeafLemmas
+pub mod SeekLemmas
+pub mod Turns

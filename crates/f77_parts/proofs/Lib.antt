@@ -1,0 +1,3 @@
+pub mod CommonTurns
+pub mod ItemLemmas
+pub mod ItemTurns
