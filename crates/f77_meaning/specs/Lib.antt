@@ -1,3 +1,4 @@
+pub mod Arrays
 pub mod Assign
 pub mod Demand
 pub mod Do

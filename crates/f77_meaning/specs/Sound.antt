@@ -1,5 +1,6 @@
 -- What a step may ask of its program, its process, the storage and the line of PRINT.
-use Rattle.std.specs.Prelude.{◌≡◌, ℕ, ◌+◌, ◌-◌, ◌^◌, ◌<◌, ◌≤◌, ℤ, Bool, true, false, ◌&&◌, List, [], ◌∷◌, ◌++◌, length, All, Option, None, Some, IsSome, IsTrue, slice_get}
+use Rattle.std.specs.Prelude.{◌≡◌, ℕ, ◌+◌, ◌-◌, ◌^◌, ◌<◌, ◌≤◌, ℤ, Bool, true, false, ◌&&◌, ◌||◌, List, [], ◌∷◌, ◌++◌, length, All, Option, None, Some, IsSome, IsTrue, slice_get}
+use Rattle.std.specs.Option.{is_some}
 use Rattle.f77_ast.specs.Entity.{entity_in}
 use Rattle.f77_ast.specs.declared.expr.Expr.{Expr}
 use Rattle.f77_ast.specs.declared.expr.Expr.TheFolds.{fold-Expr, fold-Ref}
@@ -14,6 +15,7 @@ use Rattle.f77_ast.specs.declared.program.Unit.{Unit as ProgramUnit}
 use Rattle.f77_ast.specs.declared.stmt.Item.{Item, Plain}
 use Rattle.f77_ast.specs.declared.stmt.LoopControl.{LoopControl}
 use Rattle.f77_ast.specs.declared.stmt.Stmt.{Stmt, Assign, Do, Print, End}
+use Rattle.f77_meaning.specs.Arrays.{array_named}
 use Rattle.f77_meaning.specs.Storage.{is_scalar, is_vector, IsStorage}
 use Rattle.f77_meaning.specs.Do.{has_64_bits, value_after}
 use Rattle.f77_meaning.specs.Loops.{loops_of, statements_of}
@@ -63,9 +65,9 @@ module _ (layout : Layout) (unit : ℕ) where
   abbrev pub ref_resolves : Ref → Bool
   ref_resolves = fold-Ref Bool (Unit {0}) Bool resolves_step resolves_part (resolves_ref layout unit)
 
-  -- the same of an item; an implied DO has no meaning yet
+  -- the same of an item, which may also be an array's name alone; an implied DO has no meaning yet
   abbrev pub item_resolves : Item → Bool
-  item_resolves (Plain expr) = resolves expr
+  item_resolves (Plain expr) = resolves expr || is_some (array_named layout unit expr)
   item_resolves _ = false
 
   abbrev pub items_resolve : List Item → Bool
@@ -82,8 +84,8 @@ module _ (layout : Layout) (unit : ℕ) where
   control_resolves control =
       resolves_to (entity_in layout.entities unit control.variable) None && (resolves control.first && (resolves control.last && step_resolves control.step))
 
-  -- whether all references of an assignment, a DO statement or a PRINT name entities of its unit; other statements aren't
-  -- looked at yet
+  -- whether all references of an assignment, a DO statement or a PRINT name entities of its unit, an array's name alone being
+  -- an item of PRINT; other statements aren't looked at yet
   abbrev pub statement_resolves : Stmt → Bool
   statement_resolves (Assign target value) = ref_resolves target && resolves value
   statement_resolves (Do terminal control) = control_resolves control
