@@ -4,5 +4,6 @@ pub mod Loops
 pub mod Rising
 pub mod Room
 pub mod Runs
+pub mod Short
 pub mod Sound
 pub mod Stands
