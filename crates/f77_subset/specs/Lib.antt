@@ -1,5 +1,9 @@
 pub mod Built
 pub mod Names
+pub mod Pass
+pub mod Ranges
 pub mod Storage
 pub mod Rules
 pub mod Subset
+pub mod Table
+pub mod Units

@@ -1,8 +1,7 @@
 -- The names of statements: those that INTEGER declares, those that stand in the other statements, and that of PROGRAM.
-use Rattle.std.specs.Prelude.{ℕ, Bool, false, not, ◌&&◌, List, [], ◌∷◌, ◌++◌, map, filter, Option, None, Some, nat_eq, if◌then◌else◌}
+use Rattle.std.specs.Prelude.{ℕ, Bool, false, not, List, [], ◌∷◌, ◌++◌, map, filter, Option, None, Some, nat_eq}
 use Rattle.std.specs.Cmp.Lexicographic.{pointwise}
 use Rattle.std.specs.List.{flat_map}
-use Rattle.std.specs.Option.{is_none, is_some}
 use Rattle.f77_ast.specs.declared.expr.Expr.{Expr}
 use Rattle.f77_ast.specs.declared.expr.Expr.TheOpen.{Expr-F, Part-F, Ref-F}
 use Rattle.f77_ast.specs.declared.expr.Expr.TheOpen as layer
@@ -13,6 +12,7 @@ use Rattle.f77_ast.specs.declared.stmt.Item.{Item, Plain}
 use Rattle.f77_ast.specs.declared.stmt.LoopControl.{LoopControl}
 use Rattle.f77_ast.specs.declared.stmt.Stmt.{Stmt, Declare, Assign, Do, Print, Program}
 use Rattle.f77_subset.specs.declared.names.Mention.{Mention}
+use Rattle.f77_subset.specs.declared.names.Standing.{Standing}
 use Rattle.f77_subset.specs.declared.names.Standing.TheVariants.{Variable, Element, WholeItem}
 
 -- the names in the subscripts of a reference
@@ -31,9 +31,14 @@ expr_step _ = []
 abbrev pub part_step : Part-F (List Mention) (Unit {0}) (List Mention) → Unit {0}
 part_step part = tt
 
+-- how a name stands before subscripts that may be there
+abbrev pub standing_by : {A : Type 0} → Option A → Standing
+standing_by None = Variable
+standing_by (Some subscripts) = Element
+
 -- a name before those in its subscripts
 abbrev pub ref_step : Ref-F (List Mention) (Unit {0}) (List Mention) → List Mention
-ref_step ref = record { name = ref.name; standing = (if is_some ref.args then Element else Variable) } ∷ in_subscripts ref.args
+ref_step ref = record { name = ref.name; standing = standing_by ref.args } ∷ in_subscripts ref.args
 
 -- the names in an expression, in the order of its text
 abbrev pub names_in : Expr → List Mention
@@ -51,8 +56,17 @@ alone_step _ = None
 abbrev pub alone_part : Part-F (Option (List ℕ)) (Unit {0}) (Option (List ℕ)) → Unit {0}
 alone_part part = tt
 
+-- neither subscripts nor a substring follow it
+abbrev pub unless_followed : List ℕ → Option (List (Option (List ℕ))) → Option (Unit {0}) → Option (List ℕ)
+unless_followed name None None = Some name
+unless_followed name args part = None
+
 abbrev pub alone_ref : Ref-F (Option (List ℕ)) (Unit {0}) (Option (List ℕ)) → Option (List ℕ)
-alone_ref ref = if is_none ref.args && is_none ref.part then Some ref.name else None
+alone_ref ref = unless_followed ref.name ref.args ref.part
+
+-- the name that a reference is
+abbrev pub lone_name : Ref → Option (List ℕ)
+lone_name = fold-Ref (Option (List ℕ)) (Unit {0}) (Option (List ℕ)) alone_step alone_part alone_ref
 
 abbrev pub name_alone : Expr → Option (List ℕ)
 name_alone = fold-Expr (Option (List ℕ)) (Unit {0}) (Option (List ℕ)) alone_step alone_part alone_ref

@@ -4,6 +4,7 @@ ghost use Rattle.f77_ast.specs.declared.refusal.Refusal.{Refusal};
 ghost use Rattle.f77_meaning.specs.Loops.{loops_of, statements_of};
 ghost use Rattle.f77_subset.specs.Subset.{subset_of};
 
+use crate::pass::Pass;
 use f77_ast::program::{Layout, Loops, Units};
 use f77_ast::refusal::FrontError;
 use std::alloc::Global;
@@ -20,5 +21,7 @@ pub fn subset(alloc: Global, units: &Units, loops: &Loops) -> Result<Layout, Fro
     ensures accepted { IfOk result (λ layout. subset_of loops.now units.now ≡ Ok layout) }
     ensures refused { (refusal : Refusal) → IsErrOf result (FrontError.Refused refusal) → subset_of loops.now units.now ≡ Err refusal }
 {
-    Err(FrontError::NoMemory)
+    let mut pass = Pass::new(alloc);
+    pass.take_units(alloc, loops.as_slice(), units.as_slice())?;
+    Ok(pass.table.layout(alloc)?)
 }
