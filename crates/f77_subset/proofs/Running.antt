@@ -137,9 +137,9 @@ module _ (loops : List Loop) (ss : List Stmt) (r : Running) (h : Runs loops ss r
   begin_by s v (Some loop) is e = record {
     counted = ap (λ n. n + 1) h.counted ∙ sym (ap (λ vs. loops_for vs loops) (variables_more ss s ∙ ap (λ l. do_variables ss ++ l) is) ∙ loops_more (do_variables ss) loops v ∙ ap (λ o. one_more o (loops_for (do_variables ss) loops)) e);
     reached = λ name number.
-    reaches_more r.ranges v loop.last name number
-    ∙ ap (λ t. (pointwise nat_eq name v && nat_le number loop.last) || t) (h.reached name number)
-    ∙ sym (ap (λ vs. is_active name number vs loops) (variables_more ss s ∙ ap (λ l. do_variables ss ++ l) is) ∙ active_more (do_variables ss) loops v name number ∙ ap (λ o. next_active o v name number || is_active name number (do_variables ss) loops) e);
+        reaches_more r.ranges v loop.last name number
+        ∙ ap (λ t. (pointwise nat_eq name v && nat_le number loop.last) || t) (h.reached name number)
+        ∙ sym (ap (λ vs. is_active name number vs loops) (variables_more ss s ∙ ap (λ l. do_variables ss ++ l) is) ∙ active_more (do_variables ss) loops v name number ∙ ap (λ o. next_active o v name number || is_active name number (do_variables ss) loops) e);
   }
 
   begins : (s : Stmt) (v : List ℕ) → do_variable s ≡ v ∷ [] → Runs loops (ss ++ s ∷ []) (with_next (slice_get loops r.loops) r v)

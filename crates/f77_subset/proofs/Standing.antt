@@ -249,7 +249,7 @@ module _ (ss : List Stmt) (s : Stmt) (kept : Kept ss) (names : NamesKept ss s) w
   pub kept_more : small (appearing (ss ++ s ∷ [])) ≡ true → Kept (ss ++ s ∷ [])
   kept_more fits = record {
     found = λ n d e.
-    subst (λ ds. Found ds n d) (sym (declarations_more ss s))
-    (all_found n d (find (is_of n) (appearing ss)) refl (sym (find-append (is_of n) (appearing ss) (appearing_in s)) ∙ ap (find (is_of n)) (sym (appearing_more ss s)) ∙ e));
+        subst (λ ds. Found ds n d) (sym (declarations_more ss s))
+        (all_found n d (find (is_of n) (appearing ss)) refl (sym (find-append (is_of n) (appearing ss) (appearing_in s)) ∙ ap (find (is_of n)) (sym (appearing_more ss s)) ∙ e));
     small = fits;
   }

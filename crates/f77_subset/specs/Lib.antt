@@ -1,4 +1,5 @@
 pub mod Built
+pub mod Laws
 pub mod Names
 pub mod Pass
 pub mod Ranges
