@@ -7,6 +7,7 @@
 mod broken;
 mod built;
 mod built_declarations;
+pub mod laws;
 mod mentions;
 pub mod names;
 mod pass;
