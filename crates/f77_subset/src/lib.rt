@@ -14,4 +14,6 @@ mod pass;
 mod ranges;
 pub mod subset;
 mod table;
+#[cfg(test)]
+mod tests;
 mod units;
