@@ -1,12 +1,9 @@
 -- The table takes the names of a statement exactly where the rules allow it.
-use Rattle.std.proofs.Common.{◌≡◌, ℕ, ◌+◌, ◌≤◌, Bool, true, false, not, ◌&&◌, ◌||◌, if◌then◌else◌, List, [], ◌∷◌, ◌++◌, map, nat_le, nat_eq, Option, Some, None, refl, sym, ap, ◌∙◌, subst, arith}
+use Rattle.std.proofs.Common.{◌≡◌, ℕ, ◌+◌, ◌≤◌, Bool, true, false, not, ◌&&◌, ◌||◌, if◌then◌else◌, List, [], ◌∷◌, ◌++◌, map, nat_le, nat_eq, Option, Some, None, refl, sym, ap, ◌∙◌, arith}
 use Rattle.std.specs.Cmp.Lexicographic.{pointwise}
 use Rattle.std.specs.List.{list_all, list_any}
-use Rattle.std.specs.Option.{is_some}
-use Rattle.std.proofs.lemmas.Bool.{and_from, and_parts}
 use Rattle.std.proofs.lemmas.List.{append_assoc, append-nil}
 use Rattle.std.proofs.lemmas.List.Folds.{list_any-append}
-use Rattle.f77_ast.specs.Entity.{entity_in}
 use Rattle.f77_ast.specs.declared.specification.Declarator.{Declarator}
 use Rattle.f77_ast.specs.declared.specification.TypedDeclarator.{TypedDeclarator}
 use Rattle.f77_meaning.specs.Storage.{units_by}
@@ -14,7 +11,7 @@ use Rattle.f77_subset.specs.declared.names.Mention.{Mention}
 use Rattle.f77_subset.specs.declared.table.Table.{Table}
 use Rattle.f77_subset.specs.Names.{is_of, undeclared, firsts}
 use Rattle.f77_subset.specs.Rules.{storage_limit, declares_once}
-use Rattle.f77_subset.specs.Storage.{total_units, entities_from}
+use Rattle.f77_subset.specs.Storage.{total_units}
 use Rattle.f77_subset.specs.Table.{table_of, and_then, placed, declared_by, all_declared, appeared, all_appeared}
 use Rattle.f77_subset.proofs.Firsts.{firsts_more, firsts_before, units_append, total_more, is_there, placed_is}
 

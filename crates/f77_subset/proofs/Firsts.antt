@@ -1,5 +1,5 @@
 -- The first of each name, and where it stands, as one name more comes behind the others.
-use Rattle.std.proofs.Common.{◌≡◌, ℕ, ◌+◌, ◌≤◌, Bool, true, false, not, ◌&&◌, ◌||◌, if◌then◌else◌, List, [], ◌∷◌, ◌++◌, filter, find, nat_eq, nat_le, Option, Some, None, refl, sym, ap, ◌∙◌, subst, arith}
+use Rattle.std.proofs.Common.{◌≡◌, ℕ, ◌+◌, Bool, true, false, not, ◌&&◌, ◌||◌, if◌then◌else◌, List, [], ◌∷◌, ◌++◌, filter, find, nat_eq, nat_le, Option, Some, None, refl, sym, ap, ◌∙◌, subst, arith}
 use Rattle.std.specs.Cmp.Lexicographic.{pointwise, bytes_decides}
 use Rattle.std.specs.List.{list_any}
 use Rattle.std.specs.Option.{is_some, option_map}
@@ -9,7 +9,6 @@ use Rattle.f77_ast.specs.Entity.{entity_in}
 use Rattle.f77_ast.specs.declared.specification.Bound.{Bound}
 use Rattle.f77_ast.specs.declared.specification.Declarator.{Declarator}
 use Rattle.f77_meaning.specs.Storage.{units_by}
-use Rattle.f77_subset.specs.declared.table.Table.{Table}
 use Rattle.f77_subset.specs.Names.{is_of, firsts}
 use Rattle.f77_subset.specs.Rules.{storage_limit}
 use Rattle.f77_subset.specs.Storage.{total_units, entity_at, entities_from, regions_from}

@@ -1,7 +1,7 @@
 -- The references of a statement whose names all stand as entities do name them.
 use Rattle.std.proofs.Common.{◌≡◌, ℕ, Bool, true, false, ◌&&◌, ◌||◌, List, [], ◌∷◌, ◌++◌, map, Option, Some, None, refl, sym, ap, ◌∙◌, subst, if◌then◌else◌}
 use Rattle.std.specs.List.{list_all, flat_map}
-use Rattle.std.specs.Option.{is_none, is_some, option_map}
+use Rattle.std.specs.Option.{is_some}
 use Rattle.std.proofs.lemmas.Bool.{and_from, and_parts}
 use Rattle.std.proofs.lemmas.List.{append-nil}
 use Rattle.std.proofs.lemmas.List.Folds.{list_all-append}
@@ -10,16 +10,15 @@ use Rattle.f77_ast.specs.declared.expr.Expr.{Expr, roll-Expr, map-Expr}
 use Rattle.f77_ast.specs.declared.expr.Expr.TheFolds.{fold-roll-Expr, fold-roll-Ref, ind-Expr, ind-Ref}
 use Rattle.f77_ast.specs.declared.expr.Expr.TheOpen.{Expr-F, Part-F, Ref-F}
 use Rattle.f77_ast.specs.declared.expr.Expr.TheOpen as layer
-use Rattle.f77_ast.specs.declared.expr.Op.{Op}
 use Rattle.f77_ast.specs.declared.expr.Part.{Part}
 use Rattle.f77_ast.specs.declared.expr.Ref.{Ref, roll-Ref, map-Ref}
 use Rattle.f77_ast.specs.declared.program.Entity.{Entity}
 use Rattle.f77_ast.specs.declared.program.Layout.{Layout}
 use Rattle.f77_ast.specs.declared.stmt.Item.{Item, Plain}
 use Rattle.f77_ast.specs.declared.stmt.LoopControl.{LoopControl}
-use Rattle.f77_ast.specs.declared.stmt.Stmt.{Stmt, Assign, Do, Print, Declare}
+use Rattle.f77_ast.specs.declared.stmt.Stmt.{Stmt, Assign, Do, Print}
 use Rattle.f77_meaning.specs.Arrays.{if_array, array_named, array_of_ref, array_step, array_part, array_ref}
-use Rattle.f77_meaning.specs.Sound.{resolves, ref_resolves, resolves_step, resolves_part, resolves_ref, resolves_to, item_resolves, items_resolve, step_resolves, control_resolves, statement_resolves}
+use Rattle.f77_meaning.specs.Sound.{resolves, ref_resolves, resolves_step, resolves_part, resolves_ref, resolves_to, items_resolve, step_resolves, control_resolves, statement_resolves}
 use Rattle.f77_meaning.specs.Storage.{is_scalar, is_vector}
 use Rattle.f77_subset.specs.declared.names.Mention.{Mention}
 use Rattle.f77_subset.specs.declared.names.Standing.{Standing}

@@ -1,5 +1,5 @@
 -- The DO variables that are kept tell in whose range a statement stands.
-use Rattle.std.proofs.Common.{◌≡◌, ℕ, zero, suc, ◌+◌, Bool, true, false, cond, ◌&&◌, ◌||◌, max, nat_le, nat_eq, List, [], ◌∷◌, ◌++◌, slice_get, Option, Some, None, refl, sym, ap, ◌∙◌, subst, arith, if◌then◌else◌}
+use Rattle.std.proofs.Common.{◌≡◌, ℕ, suc, ◌+◌, Bool, true, false, cond, ◌&&◌, ◌||◌, max, nat_le, nat_eq, List, [], ◌∷◌, ◌++◌, slice_get, Option, Some, None, refl, sym, ap, ◌∙◌, subst, arith, if◌then◌else◌}
 use Rattle.std.specs.Cmp.Lexicographic.{pointwise}
 use Rattle.std.specs.List.{list_any}
 use Rattle.std.specs.Map.{lookup}
@@ -13,7 +13,7 @@ use Rattle.f77_subset.specs.declared.pass.Running.{Running}
 use Rattle.f77_subset.specs.Pass.{with_next, followed}
 use Rattle.f77_subset.specs.Ranges.{Ends, is_reached_by, reaches, greatest, with_loop, breaks}
 use Rattle.f77_subset.specs.Rules.{do_variable, do_variables, is_active, assigned_in}
-use Rattle.f77_subset.proofs.Firsts.{same_name, own_name}
+use Rattle.f77_subset.proofs.Firsts.{same_name}
 
 -- ---- one loop more
 

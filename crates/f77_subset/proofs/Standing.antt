@@ -3,7 +3,7 @@ use Rattle.std.proofs.Common.{◌≡◌, ℕ, Bool, true, false, not, ◌&&◌, 
 use Rattle.std.specs.Cmp.Lexicographic.{pointwise}
 use Rattle.std.specs.List.{list_all, list_any, flat_map}
 use Rattle.std.specs.Option.{is_some, option_map, option_or}
-use Rattle.std.proofs.lemmas.Bool.{and_from, and_parts}
+use Rattle.std.proofs.lemmas.Bool.{and_parts}
 use Rattle.std.proofs.lemmas.Grind.{flat_map-append}
 use Rattle.std.proofs.lemmas.List.{append-nil}
 use Rattle.std.proofs.lemmas.List.Folds.{find-append, list_any-append}
@@ -13,13 +13,11 @@ use Rattle.f77_ast.specs.declared.specification.Declarator.{Declarator}
 use Rattle.f77_ast.specs.declared.stmt.Stmt.{Stmt, Program}
 use Rattle.f77_meaning.specs.Storage.{units_by}
 use Rattle.f77_subset.specs.declared.names.Mention.{Mention}
-use Rattle.f77_subset.specs.declared.names.Standing.{Standing}
-use Rattle.f77_subset.specs.declared.names.Standing.TheVariants.{Variable, Element, WholeItem}
 use Rattle.f77_subset.specs.declared.table.Table.{Table}
-use Rattle.f77_subset.specs.Names.{mentioned_in, declared_in, is_program_of, is_of, undeclared, firsts, appearing_in, names_of, declarations}
+use Rattle.f77_subset.specs.Names.{mentioned_in, declared_in, is_program_of, is_of, undeclared, appearing_in, names_of, declarations}
 use Rattle.f77_subset.specs.Rules.{begins_integer, are_bounds, is_array_by, is_array, may_stand, is_integer, is_no_program, may_declare, may_mention, declares_once, names_keep}
 use Rattle.f77_subset.specs.Storage.{entities_from}
-use Rattle.f77_subset.specs.Table.{table_of, is_program, stands_as, allows}
+use Rattle.f77_subset.specs.Table.{table_of, stands_as, allows}
 use Rattle.f77_subset.proofs.Firsts.{any_is_find, same_name, find_firsts, any_firsts, bounds_found}
 use Rattle.f77_subset.proofs.Admits.{small}
 

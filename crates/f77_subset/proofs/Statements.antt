@@ -1,18 +1,17 @@
 -- The table takes a statement exactly where the rules on names and storage allow it.
-use Rattle.std.proofs.Common.{◌≡◌, ℕ, Bool, true, false, not, ◌&&◌, nat_le, nat_eq, List, [], ◌∷◌, ◌++◌, map, Option, Some, None, refl, sym, ap, ◌∙◌, if◌then◌else◌}
-use Rattle.std.specs.Cmp.Lexicographic.{pointwise}
-use Rattle.std.specs.List.{list_all, list_any}
+use Rattle.std.proofs.Common.{◌≡◌, ℕ, Bool, true, false, not, ◌&&◌, nat_le, List, [], ◌∷◌, ◌++◌, map, Option, Some, None, refl, sym, ap, ◌∙◌, if◌then◌else◌}
+use Rattle.std.specs.List.{list_all}
 use Rattle.std.proofs.lemmas.List.{append-nil}
 use Rattle.f77_ast.specs.declared.specification.Declarator.{Declarator}
 use Rattle.f77_ast.specs.declared.specification.TypedDeclarator.{TypedDeclarator}
-use Rattle.f77_ast.specs.declared.stmt.Stmt.{Stmt, Assign, Do, Print, Program, Declare}
+use Rattle.f77_ast.specs.declared.stmt.Stmt.{Stmt, Program, Declare}
 use Rattle.f77_meaning.specs.Storage.{units_by}
 use Rattle.f77_subset.specs.declared.table.Table.{Table}
-use Rattle.f77_subset.specs.Names.{mentioned_in, declared_in, is_of, undeclared, firsts, appearing_in, names_of}
-use Rattle.f77_subset.specs.Rules.{is_no_program, may_declare, may_mention, declares_once, names_keep, storage_keeps}
-use Rattle.f77_subset.specs.Table.{table_of, all_declared, all_appeared, all_mentioned, with_program, admitted}
+use Rattle.f77_subset.specs.Names.{mentioned_in, declared_in, undeclared, firsts}
+use Rattle.f77_subset.specs.Rules.{may_declare, may_mention, declares_once, names_keep, storage_keeps}
+use Rattle.f77_subset.specs.Table.{table_of, all_declared, all_mentioned, with_program, admitted}
 use Rattle.f77_subset.proofs.Firsts.{any_firsts}
-use Rattle.f77_subset.proofs.Admits.{Where, small, fine, may_all, declarators, declared_all, appeared_all}
+use Rattle.f77_subset.proofs.Admits.{Where, small, fine, declared_all, appeared_all}
 use Rattle.f77_subset.proofs.Standing.{appearing, programs_of, program_in, table_after, appearing_more, programs_more, program_is, Kept, allows_all}
 
 -- what a statement comes to

@@ -1,10 +1,9 @@
 -- The DO variables so far, each with the greatest end of the ranges of its loops.
-use Rattle.std.specs.Prelude.{ℕ, zero, suc, Bool, false, max, nat_le, nat_eq, List, [], ◌∷◌, Option, None, Some}
+use Rattle.std.specs.Prelude.{ℕ, Bool, false, max, nat_le, nat_eq, List, Option, None, Some}
 use Rattle.std.specs.Cmp.Lexicographic.{pointwise}
 use Rattle.std.specs.Map.{lookup}
 use Rattle.indexmap.specs.IndexMap.{insert_entry}
 use Rattle.f77_ast.specs.declared.expr.Ref.{out-Ref}
-use Rattle.f77_ast.specs.declared.program.Loop.{Loop}
 use Rattle.f77_ast.specs.declared.stmt.Stmt.{Stmt, Assign, Do}
 
 -- names, each with the last statement of the file that its loops reach

@@ -1,6 +1,6 @@
 -- The rules on names, storage and DO variables, for one statement behind those before it. They are those that the standard
 -- has for what is built so far; when names and storage are whole, each gets a refusal of its own.
-use Rattle.std.specs.Prelude.{ℕ, Bool, true, false, not, ◌&&◌, ◌||◌, nat_le, nat_eq, List, [], ◌∷◌, ◌++◌, find, Option, None, Some}
+use Rattle.std.specs.Prelude.{ℕ, Bool, true, false, not, ◌&&◌, ◌||◌, nat_le, nat_eq, List, [], ◌∷◌, find, Option, None, Some}
 use Rattle.std.specs.Cmp.Lexicographic.{pointwise}
 use Rattle.std.specs.List.{list_all, list_any, flat_map}
 use Rattle.f77_ast.specs.declared.expr.Ref.{out-Ref}

@@ -1,6 +1,7 @@
 //! What no clause says: which files are accepted, with the places of their names found by hand, and which are refused,
 //! with the line.
 ghost use Rattle.std.specs.Prelude.{◌≡◌, ◌+◌, ◌<◌, ◌^◌, length, IfOk};
+ghost use Rattle.f77_loops.specs.Statements.{statements_in};
 ghost use Rattle.f77_meaning.specs.Loops.{statements_of};
 
 use crate::subset::subset;
@@ -387,6 +388,7 @@ fn listing(alloc: Global, lines: &[Line]) -> Result<Listing, Fail> {
 fn units_of(alloc: Global, listing: Listing) -> Result<Units, Fail>
     ensures units { IfOk result (λ units. length units < 2 ^ 32) }
     ensures statements { IfOk result (λ units. statements_of units + 1 < 2 ^ 32) }
+    ensures counted { IfOk result (λ units. statements_in units + 1 < 2 ^ 32) }
 {
     if listing.len() > 1000 {
         return Err(Fail::from("too many statements"));
@@ -410,8 +412,7 @@ fn layout_of(alloc: Global, lines: &[Line]) -> Result<Result<Layout, FrontError>
 /// The names of a layout, each with its address and its number of storage units.
 fn places(alloc: Global, layout: &Layout) -> Result<Vec<(u8, u32, u32)>, Fail> {
     let mut all = Vec::new(alloc);
-    let mut place: usize = 0;
-    while place < layout.entities.len() {
+    for place in 0..layout.entities.len() {
         if let (Some(entity), Some(region)) = (
             layout.entities.get(place),
             layout.regions.get(place),
@@ -428,17 +429,45 @@ fn places(alloc: Global, layout: &Layout) -> Result<Vec<(u8, u32, u32)>, Fail> {
                 all.push((letter, address, region.len))?;
             }
         }
-        place += 1;
     }
     Ok(all)
 }
 
+/// The line at which a file is refused with code 21: none where it is accepted.
+fn line_of(alloc: Global, lines: &[Line]) -> Result<Option<u32>, Fail> {
+    match layout_of(alloc, lines)? {
+        Ok(_layout) => Ok(None),
+        Err(FrontError::Refused(Refusal { line, code: 21 })) => Ok(Some(line)),
+        Err(_other) => Err(Fail::from("refused with another code, or out of memory")),
+    }
+}
+
+/// Whether a file is accepted with these names, each with its address and its number of storage units, and so many
+/// storage units.
+fn is_laid(
+    alloc: Global,
+    lines: &[Line],
+    names: &[(u8, u32, u32)],
+    total: u32,
+) -> Result<bool, Fail> {
+    match layout_of(alloc, lines)? {
+        Ok(layout) => Ok(
+            places(alloc, &layout)?.as_slice() == names
+                && layout.total == total
+                && layout.first.len() == total as usize
+                && layout.regions.len() == names.len(),
+        ),
+        Err(_error) => Ok(false),
+    }
+}
+
 #[test]
-fn files_are_accepted(rt: HostRuntime) -> Result<(), Fail> {
-    let rows: [(&[Line], &[(u8, u32, u32)], u32); 9] = [
-        (&[Line::End], &[], 0),
-        // Names in the order of their first appearance: that of a reference before those in its subscript.
-        (
+fn names_take_their_places(rt: HostRuntime) -> Result<(), Fail> {
+    assert_eq!(rt; is_laid(rt.alloc(), &[Line::End], &[], 0)?, true);
+    // Names in the order of their first appearance: that of a reference before those in its subscript.
+    assert_eq!(rt;
+        is_laid(
+            rt.alloc(),
             &[
                 Line::Program(b'P'),
                 Line::Integer(&[(b'A', 3), (b'B', 0)]),
@@ -453,10 +482,14 @@ fn files_are_accepted(rt: HostRuntime) -> Result<(), Fail> {
                 (b'J', 5, 1),
                 (b'I', 6, 1),
             ],
-            7,
-        ),
-        // INTEGER may stand between others, where its names are new.
-        (
+            7
+        )?,
+        true
+    );
+    // INTEGER may stand between others, where its names are new.
+    assert_eq!(rt;
+        is_laid(
+            rt.alloc(),
             &[
                 Line::Is(Tree::Var(b'K'), Tree::Num(1)),
                 Line::Integer(&[(b'X', 0)]),
@@ -464,20 +497,28 @@ fn files_are_accepted(rt: HostRuntime) -> Result<(), Fail> {
                 Line::End,
             ],
             &[(b'K', 0, 1), (b'X', 1, 1)],
-            2,
-        ),
-        // An array's name is a whole item of PRINT.
-        (
+            2
+        )?,
+        true
+    );
+    // An array's name is a whole item of PRINT.
+    assert_eq!(rt;
+        is_laid(
+            rt.alloc(),
             &[
                 Line::Integer(&[(b'A', 2)]),
                 Line::Print2(Tree::Var(b'A'), Tree::Var(b'M')),
                 Line::End,
             ],
             &[(b'A', 0, 2), (b'M', 2, 1)],
-            3,
-        ),
-        // A DO variable is assigned behind its range, and is that of two loops in turn.
-        (
+            3
+        )?,
+        true
+    );
+    // A DO variable is assigned behind its range, and is that of two loops in turn.
+    assert_eq!(rt;
+        is_laid(
+            rt.alloc(),
             &[
                 Line::Do(b'I', Tree::Var(b'N'), Tree::Var(b'M')),
                 Line::Continue(10),
@@ -488,10 +529,19 @@ fn files_are_accepted(rt: HostRuntime) -> Result<(), Fail> {
                 Line::End,
             ],
             &[(b'I', 0, 1), (b'N', 1, 1), (b'M', 2, 1), (b'L', 3, 1)],
-            4,
-        ),
-        // Loops inside another one, over variables of their own, and assignments to others.
-        (
+            4
+        )?,
+        true
+    );
+    Ok(())
+}
+
+#[test]
+fn loops_and_limits_are_kept(rt: HostRuntime) -> Result<(), Fail> {
+    // Loops inside another one, over variables of their own, and assignments to others.
+    assert_eq!(rt;
+        is_laid(
+            rt.alloc(),
             &[
                 Line::Do20(b'I', Tree::Num(1)),
                 Line::Do(b'J', Tree::Num(1), Tree::Var(b'I')),
@@ -501,10 +551,14 @@ fn files_are_accepted(rt: HostRuntime) -> Result<(), Fail> {
                 Line::End,
             ],
             &[(b'I', 0, 1), (b'J', 1, 1), (b'K', 2, 1)],
-            3,
-        ),
-        // A DO whose label comes again behind another one's terminal statement.
-        (
+            3
+        )?,
+        true
+    );
+    // A DO whose label comes again behind another one's terminal statement.
+    assert_eq!(rt;
+        is_laid(
+            rt.alloc(),
             &[
                 Line::Do(b'I', Tree::Num(1), Tree::Num(2)),
                 Line::Do(b'J', Tree::Num(1), Tree::Num(2)),
@@ -513,286 +567,485 @@ fn files_are_accepted(rt: HostRuntime) -> Result<(), Fail> {
                 Line::End,
             ],
             &[(b'I', 0, 1), (b'J', 1, 1)],
-            2,
-        ),
-        (
+            2
+        )?,
+        true
+    );
+    assert_eq!(rt;
+        is_laid(
+            rt.alloc(),
             &[Line::Integer(&[(b'A', 1_000_000)]), Line::End],
             &[(b'A', 0, 1_000_000)],
-            1_000_000,
-        ),
-        (
+            1_000_000
+        )?,
+        true
+    );
+    assert_eq!(rt;
+        is_laid(
+            rt.alloc(),
             &[
                 Line::Integer(&[(b'A', 999_999)]),
                 Line::Print2(Tree::Var(b'K'), Tree::Var(b'K')),
                 Line::End,
             ],
             &[(b'A', 0, 999_999), (b'K', 999_999, 1)],
-            1_000_000,
-        ),
-    ];
-    let mut row = 0;
-    for (lines, names, total) in rows {
-        match layout_of(rt.alloc(), lines)? {
-            Ok(layout) => {
-                assert_eq!(rt; places(rt.alloc(), &layout)?.as_slice(), names, "row {row}");
-                assert_eq!(rt; layout.total, total, "row {row}");
-                assert_eq!(rt; layout.first.len(), total as usize, "row {row}");
-                assert_eq!(rt; layout.regions.len(), names.len(), "row {row}");
-            }
-            Err(error) => return Err(Fail::from("a file is refused")),
-        }
-        row += 1;
-    }
+            1_000_000
+        )?,
+        true
+    );
     Ok(())
 }
 
 #[test]
-fn files_are_refused(rt: HostRuntime) -> Result<(), Fail> {
-    let one = Tree::Num(1);
-    let rows: [(&[Line], u32); 61] = [
-        // Statements that aren't built.
-        (&[Line::Read(b'K')], 2),
-        (&[Line::Call], 2),
-        (&[Line::If], 2),
-        (&[Line::Goto], 2),
-        (&[Line::Stop], 2),
-        (&[Line::Data], 2),
-        (&[Line::Implied(b'I')], 2),
-        (&[Line::End, Line::Subroutine], 4),
-        (&[Line::Logical(b'L')], 2),
-        (&[Line::Integer2(b'A')], 2),
-        (&[Line::IntegerFrom(b'A')], 2),
-        (&[Line::IntegerTo(b'A')], 2),
-        (&[Line::IntegerLong(b'A')], 2),
-        // Expressions that aren't.
-        (&[Line::Is(Tree::Var(b'K'), Tree::Truth)], 2),
-        (&[Line::Is(Tree::Var(b'K'), Tree::Chars)], 2),
-        (&[Line::Is(Tree::Var(b'K'), Tree::With(b'L', Op::And))], 2),
-        (&[Line::Is(Tree::Var(b'K'), Tree::With(b'L', Op::Cat))], 2),
-        (&[Line::Is(Tree::Var(b'K'), Tree::With(b'L', Op::Neg))], 2),
-        (&[Line::Is(Tree::Var(b'K'), Tree::Before(Op::Not, b'L'))], 2),
-        (&[Line::Is(Tree::Var(b'K'), Tree::Before(Op::Mul, b'L'))], 2),
-        (&[Line::Is(Tree::Sub(b'K'), Tree::Num(1))], 2),
-        (&[Line::Is(Tree::Var(b'K'), Tree::Sub(b'K'))], 2),
-        (&[Line::Print2(Tree::Num(1), Tree::Sub(b'K'))], 2),
-        (
+fn statements_that_are_not_built(rt: HostRuntime) -> Result<(), Fail> {
+    // Statements that aren't built.
+    assert_eq!(rt; line_of(rt.alloc(), &[Line::Read(b'K')])?, Some(2));
+    assert_eq!(rt; line_of(rt.alloc(), &[Line::Call])?, Some(2));
+    assert_eq!(rt; line_of(rt.alloc(), &[Line::If])?, Some(2));
+    assert_eq!(rt; line_of(rt.alloc(), &[Line::Goto])?, Some(2));
+    assert_eq!(rt; line_of(rt.alloc(), &[Line::Stop])?, Some(2));
+    assert_eq!(rt; line_of(rt.alloc(), &[Line::Data])?, Some(2));
+    assert_eq!(rt; line_of(rt.alloc(), &[Line::Implied(b'I')])?, Some(2));
+    assert_eq!(rt;
+        line_of(rt.alloc(), &[Line::End, Line::Subroutine])?,
+        Some(4)
+    );
+    assert_eq!(rt; line_of(rt.alloc(), &[Line::Logical(b'L')])?, Some(2));
+    assert_eq!(rt; line_of(rt.alloc(), &[Line::Integer2(b'A')])?, Some(2));
+    assert_eq!(rt; line_of(rt.alloc(), &[Line::IntegerFrom(b'A')])?, Some(2));
+    assert_eq!(rt; line_of(rt.alloc(), &[Line::IntegerTo(b'A')])?, Some(2));
+    assert_eq!(rt; line_of(rt.alloc(), &[Line::IntegerLong(b'A')])?, Some(2));
+    Ok(())
+}
+
+#[test]
+fn expressions_that_are_not_built(rt: HostRuntime) -> Result<(), Fail> {
+    // Expressions that aren't.
+    assert_eq!(rt;
+        line_of(rt.alloc(), &[Line::Is(Tree::Var(b'K'), Tree::Truth)])?,
+        Some(2)
+    );
+    assert_eq!(rt;
+        line_of(rt.alloc(), &[Line::Is(Tree::Var(b'K'), Tree::Chars)])?,
+        Some(2)
+    );
+    assert_eq!(rt;
+        line_of(
+            rt.alloc(),
+            &[Line::Is(Tree::Var(b'K'), Tree::With(b'L', Op::And))]
+        )?,
+        Some(2)
+    );
+    assert_eq!(rt;
+        line_of(
+            rt.alloc(),
+            &[Line::Is(Tree::Var(b'K'), Tree::With(b'L', Op::Cat))]
+        )?,
+        Some(2)
+    );
+    assert_eq!(rt;
+        line_of(
+            rt.alloc(),
+            &[Line::Is(Tree::Var(b'K'), Tree::With(b'L', Op::Neg))]
+        )?,
+        Some(2)
+    );
+    assert_eq!(rt;
+        line_of(
+            rt.alloc(),
+            &[Line::Is(Tree::Var(b'K'), Tree::Before(Op::Not, b'L'))]
+        )?,
+        Some(2)
+    );
+    assert_eq!(rt;
+        line_of(
+            rt.alloc(),
+            &[Line::Is(Tree::Var(b'K'), Tree::Before(Op::Mul, b'L'))]
+        )?,
+        Some(2)
+    );
+    assert_eq!(rt;
+        line_of(rt.alloc(), &[Line::Is(Tree::Sub(b'K'), Tree::Num(1))])?,
+        Some(2)
+    );
+    assert_eq!(rt;
+        line_of(rt.alloc(), &[Line::Is(Tree::Var(b'K'), Tree::Sub(b'K'))])?,
+        Some(2)
+    );
+    assert_eq!(rt;
+        line_of(rt.alloc(), &[Line::Print2(Tree::Num(1), Tree::Sub(b'K'))])?,
+        Some(2)
+    );
+    assert_eq!(rt;
+        line_of(
+            rt.alloc(),
             &[
                 Line::Integer(&[(b'A', 3)]),
                 Line::Is(Tree::At2(b'A'), Tree::Num(1)),
-            ],
-            4,
-        ),
-        (
-            &[Line::Integer(&[(b'A', 3)]), Line::Print(Tree::At2(b'A'))],
-            4,
-        ),
-        // Names that aren't INTEGER: the letters next to I and N.
-        (&[Line::Is(Tree::Var(b'H'), Tree::Num(1))], 2),
-        (&[Line::Is(Tree::Var(b'K'), Tree::Var(b'O'))], 2),
-        (&[Line::Print(Tree::Var(b'X'))], 2),
-        (
+            ]
+        )?,
+        Some(4)
+    );
+    assert_eq!(rt;
+        line_of(
+            rt.alloc(),
+            &[Line::Integer(&[(b'A', 3)]), Line::Print(Tree::At2(b'A'))]
+        )?,
+        Some(4)
+    );
+    Ok(())
+}
+
+#[test]
+fn names_that_are_not_integer(rt: HostRuntime) -> Result<(), Fail> {
+    // Names that aren't INTEGER: the letters next to I and N.
+    assert_eq!(rt;
+        line_of(rt.alloc(), &[Line::Is(Tree::Var(b'H'), Tree::Num(1))])?,
+        Some(2)
+    );
+    assert_eq!(rt;
+        line_of(rt.alloc(), &[Line::Is(Tree::Var(b'K'), Tree::Var(b'O'))])?,
+        Some(2)
+    );
+    assert_eq!(rt;
+        line_of(rt.alloc(), &[Line::Print(Tree::Var(b'X'))])?,
+        Some(2)
+    );
+    assert_eq!(rt;
+        line_of(
+            rt.alloc(),
             &[
                 Line::Do(b'X', Tree::Num(1), Tree::Num(2)),
                 Line::Continue(10),
-            ],
-            2,
-        ),
-        (&[Line::Do20(b'I', Tree::Var(b'X')), Line::Continue(20)], 2),
-        // Arrays without subscripts, and variables with one.
-        (
+            ]
+        )?,
+        Some(2)
+    );
+    assert_eq!(rt;
+        line_of(
+            rt.alloc(),
+            &[Line::Do20(b'I', Tree::Var(b'X')), Line::Continue(20)]
+        )?,
+        Some(2)
+    );
+    Ok(())
+}
+
+#[test]
+fn names_that_stand_otherwise(rt: HostRuntime) -> Result<(), Fail> {
+    // Arrays without subscripts, and variables with one.
+    assert_eq!(rt;
+        line_of(
+            rt.alloc(),
             &[
                 Line::Integer(&[(b'A', 3)]),
                 Line::Is(Tree::Var(b'A'), Tree::Num(1)),
-            ],
-            4,
-        ),
-        (
+            ]
+        )?,
+        Some(4)
+    );
+    assert_eq!(rt;
+        line_of(
+            rt.alloc(),
             &[
                 Line::Integer(&[(b'A', 3)]),
                 Line::Is(Tree::Var(b'K'), Tree::Var(b'A')),
-            ],
-            4,
-        ),
-        (
-            &[Line::Integer(&[(b'A', 3)]), Line::Print(Tree::Paren(b'A'))],
-            4,
-        ),
-        (
+            ]
+        )?,
+        Some(4)
+    );
+    assert_eq!(rt;
+        line_of(
+            rt.alloc(),
+            &[Line::Integer(&[(b'A', 3)]), Line::Print(Tree::Paren(b'A'))]
+        )?,
+        Some(4)
+    );
+    assert_eq!(rt;
+        line_of(
+            rt.alloc(),
             &[
                 Line::Integer(&[(b'A', 3)]),
                 Line::Print(Tree::Before(Op::Plus, b'A')),
-            ],
-            4,
-        ),
-        (
+            ]
+        )?,
+        Some(4)
+    );
+    assert_eq!(rt;
+        line_of(
+            rt.alloc(),
             &[
                 Line::Integer(&[(b'A', 3)]),
                 Line::Print(Tree::AtVar(b'A', b'A')),
-            ],
-            4,
-        ),
-        (
+            ]
+        )?,
+        Some(4)
+    );
+    assert_eq!(rt;
+        line_of(
+            rt.alloc(),
             &[
                 Line::Integer(&[(b'I', 3)]),
                 Line::Do(b'I', Tree::Num(1), Tree::Num(2)),
                 Line::Continue(10),
-            ],
-            4,
-        ),
-        (
+            ]
+        )?,
+        Some(4)
+    );
+    assert_eq!(rt;
+        line_of(
+            rt.alloc(),
             &[
                 Line::Is(Tree::Var(b'K'), Tree::Num(1)),
                 Line::Print(Tree::At(b'K', 1)),
-            ],
-            4,
-        ),
-        (
+            ]
+        )?,
+        Some(4)
+    );
+    assert_eq!(rt;
+        line_of(
+            rt.alloc(),
             &[
                 Line::Integer(&[(b'A', 0)]),
                 Line::Is(Tree::At(b'A', 1), Tree::Num(1)),
-            ],
-            4,
-        ),
-        (&[Line::Is(Tree::At(b'K', 1), Tree::Num(1))], 2),
-        // Names that are declared again, or behind a use; arrays without elements.
-        (&[Line::Integer(&[(b'A', 0), (b'B', 0), (b'A', 3)])], 2),
-        (
+            ]
+        )?,
+        Some(4)
+    );
+    assert_eq!(rt;
+        line_of(rt.alloc(), &[Line::Is(Tree::At(b'K', 1), Tree::Num(1))])?,
+        Some(2)
+    );
+    Ok(())
+}
+
+#[test]
+fn names_that_are_declared_again(rt: HostRuntime) -> Result<(), Fail> {
+    // Names that are declared again, or behind a use; arrays without elements.
+    assert_eq!(rt;
+        line_of(
+            rt.alloc(),
+            &[Line::Integer(&[(b'A', 0), (b'B', 0), (b'A', 3)])]
+        )?,
+        Some(2)
+    );
+    assert_eq!(rt;
+        line_of(
+            rt.alloc(),
             &[
                 Line::Integer(&[(b'A', 0)]),
                 Line::Integer(&[(b'B', 0), (b'A', 0)]),
-            ],
-            4,
-        ),
-        (
+            ]
+        )?,
+        Some(4)
+    );
+    assert_eq!(rt;
+        line_of(
+            rt.alloc(),
             &[
                 Line::Is(Tree::Var(b'K'), Tree::Num(1)),
                 Line::Integer(&[(b'K', 0)]),
-            ],
-            4,
-        ),
-        (
-            &[Line::Print(Tree::Var(b'K')), Line::Integer(&[(b'K', 3)])],
-            4,
-        ),
-        (&[Line::Integer(&[(b'A', -1)])], 2),
-        // The name of PROGRAM.
-        (&[Line::Program(b'K'), Line::Integer(&[(b'K', 0)])], 4),
-        (
-            &[Line::Program(b'K'), Line::Is(Tree::Var(b'K'), Tree::Num(1))],
-            4,
-        ),
-        (
+            ]
+        )?,
+        Some(4)
+    );
+    assert_eq!(rt;
+        line_of(
+            rt.alloc(),
+            &[Line::Print(Tree::Var(b'K')), Line::Integer(&[(b'K', 3)])]
+        )?,
+        Some(4)
+    );
+    assert_eq!(rt;
+        line_of(rt.alloc(), &[Line::Integer(&[(b'A', -1)])])?,
+        Some(2)
+    );
+    // The name of PROGRAM.
+    assert_eq!(rt;
+        line_of(
+            rt.alloc(),
+            &[Line::Program(b'K'), Line::Integer(&[(b'K', 0)])]
+        )?,
+        Some(4)
+    );
+    assert_eq!(rt;
+        line_of(
+            rt.alloc(),
+            &[Line::Program(b'K'), Line::Is(Tree::Var(b'K'), Tree::Num(1))]
+        )?,
+        Some(4)
+    );
+    assert_eq!(rt;
+        line_of(
+            rt.alloc(),
             &[
                 Line::Program(b'K'),
                 Line::Do(b'K', Tree::Num(1), Tree::Num(2)),
                 Line::Continue(10),
-            ],
-            4,
-        ),
-        // Storage of one unit too many, where the name stands first.
-        (&[Line::Integer(&[(b'A', 1_000_001)])], 2),
-        (&[Line::Integer(&[(b'A', i64::MAX)])], 2),
-        (&[Line::Integer(&[(b'A', 1_000_000), (b'B', 0)])], 2),
-        (
+            ]
+        )?,
+        Some(4)
+    );
+    Ok(())
+}
+
+#[test]
+fn storage_past_its_limit(rt: HostRuntime) -> Result<(), Fail> {
+    // Storage of one unit too many, where the name stands first.
+    assert_eq!(rt;
+        line_of(rt.alloc(), &[Line::Integer(&[(b'A', 1_000_001)])])?,
+        Some(2)
+    );
+    assert_eq!(rt;
+        line_of(rt.alloc(), &[Line::Integer(&[(b'A', i64::MAX)])])?,
+        Some(2)
+    );
+    assert_eq!(rt;
+        line_of(
+            rt.alloc(),
+            &[Line::Integer(&[(b'A', 1_000_000), (b'B', 0)])]
+        )?,
+        Some(2)
+    );
+    assert_eq!(rt;
+        line_of(
+            rt.alloc(),
             &[
                 Line::Integer(&[(b'A', 1_000_000)]),
                 Line::Print(Tree::At(b'A', 1)),
                 Line::Print(Tree::Var(b'K')),
-            ],
-            6,
-        ),
-        (
+            ]
+        )?,
+        Some(6)
+    );
+    assert_eq!(rt;
+        line_of(
+            rt.alloc(),
             &[
                 Line::Integer(&[(b'A', 999_999)]),
                 Line::Print(Tree::Var(b'K')),
                 Line::Print2(Tree::Var(b'K'), Tree::Var(b'L')),
-            ],
-            6,
-        ),
-        // DO variables that are assigned in a range: the next statement, the terminal one, by an inner DO, and behind
-        // an inner range over another variable.
-        (
+            ]
+        )?,
+        Some(6)
+    );
+    Ok(())
+}
+
+#[test]
+fn variables_that_are_assigned(rt: HostRuntime) -> Result<(), Fail> {
+    // DO variables that are assigned in a range: the next statement, the terminal one, by an inner DO, and behind
+    // an inner range over another variable.
+    assert_eq!(rt;
+        line_of(
+            rt.alloc(),
             &[
-                Line::Do(b'I', one, one),
-                Line::Is(Tree::Var(b'I'), one),
+                Line::Do(b'I', Tree::Num(1), Tree::Num(1)),
+                Line::Is(Tree::Var(b'I'), Tree::Num(1)),
                 Line::Continue(10),
-            ],
-            4,
-        ),
-        (
+            ]
+        )?,
+        Some(4)
+    );
+    assert_eq!(rt;
+        line_of(
+            rt.alloc(),
             &[
-                Line::Do(b'I', one, one),
-                Line::Print(one),
-                Line::Is10(Tree::Var(b'I'), one),
-            ],
-            6,
-        ),
-        (
+                Line::Do(b'I', Tree::Num(1), Tree::Num(1)),
+                Line::Print(Tree::Num(1)),
+                Line::Is10(Tree::Var(b'I'), Tree::Num(1)),
+            ]
+        )?,
+        Some(6)
+    );
+    assert_eq!(rt;
+        line_of(
+            rt.alloc(),
             &[
-                Line::Do20(b'I', one),
-                Line::Do(b'I', one, one),
-                Line::Continue(10),
-                Line::Continue(20),
-            ],
-            4,
-        ),
-        (
-            &[
-                Line::Do20(b'I', one),
-                Line::Do(b'J', one, one),
-                Line::Continue(10),
-                Line::Is(Tree::Var(b'I'), one),
-                Line::Continue(20),
-            ],
-            8,
-        ),
-        (
-            &[
-                Line::Do20(b'I', one),
-                Line::Do(b'J', one, one),
-                Line::Is(Tree::Var(b'I'), one),
+                Line::Do20(b'I', Tree::Num(1)),
+                Line::Do(b'I', Tree::Num(1), Tree::Num(1)),
                 Line::Continue(10),
                 Line::Continue(20),
-            ],
-            6,
-        ),
-        // A second range over a variable is the greater one.
-        (
+            ]
+        )?,
+        Some(4)
+    );
+    assert_eq!(rt;
+        line_of(
+            rt.alloc(),
             &[
-                Line::Do(b'I', one, one),
+                Line::Do20(b'I', Tree::Num(1)),
+                Line::Do(b'J', Tree::Num(1), Tree::Num(1)),
                 Line::Continue(10),
-                Line::Do20(b'I', one),
-                Line::Is(Tree::Var(b'I'), one),
+                Line::Is(Tree::Var(b'I'), Tree::Num(1)),
                 Line::Continue(20),
-            ],
-            8,
-        ),
-        // The first of two breaks; a statement that isn't built counts before a later rule, and a rule before a later
-        // statement that isn't built.
-        (&[Line::Is(Tree::Var(b'X'), one), Line::Read(b'K')], 2),
-        (
-            &[Line::Print(one), Line::Stop, Line::Is(Tree::Var(b'X'), one)],
-            4,
-        ),
-        (
+            ]
+        )?,
+        Some(8)
+    );
+    assert_eq!(rt;
+        line_of(
+            rt.alloc(),
+            &[
+                Line::Do20(b'I', Tree::Num(1)),
+                Line::Do(b'J', Tree::Num(1), Tree::Num(1)),
+                Line::Is(Tree::Var(b'I'), Tree::Num(1)),
+                Line::Continue(10),
+                Line::Continue(20),
+            ]
+        )?,
+        Some(6)
+    );
+    // A second range over a variable is the greater one.
+    assert_eq!(rt;
+        line_of(
+            rt.alloc(),
+            &[
+                Line::Do(b'I', Tree::Num(1), Tree::Num(1)),
+                Line::Continue(10),
+                Line::Do20(b'I', Tree::Num(1)),
+                Line::Is(Tree::Var(b'I'), Tree::Num(1)),
+                Line::Continue(20),
+            ]
+        )?,
+        Some(8)
+    );
+    Ok(())
+}
+
+#[test]
+fn the_first_of_two_breaks(rt: HostRuntime) -> Result<(), Fail> {
+    // The first of two breaks; a statement that isn't built counts before a later rule, and a rule before a later
+    // statement that isn't built.
+    assert_eq!(rt;
+        line_of(
+            rt.alloc(),
+            &[Line::Is(Tree::Var(b'X'), Tree::Num(1)), Line::Read(b'K')]
+        )?,
+        Some(2)
+    );
+    assert_eq!(rt;
+        line_of(
+            rt.alloc(),
+            &[
+                Line::Print(Tree::Num(1)),
+                Line::Stop,
+                Line::Is(Tree::Var(b'X'), Tree::Num(1))
+            ]
+        )?,
+        Some(4)
+    );
+    assert_eq!(rt;
+        line_of(
+            rt.alloc(),
             &[
                 Line::Integer(&[(b'A', 3)]),
                 Line::Print(Tree::Var(b'A')),
                 Line::Integer(&[(b'A', 3)]),
                 Line::Goto,
-            ],
-            6,
-        ),
-    ];
-    let mut row = 0;
-    for (lines, line) in rows {
-        let refusal = match layout_of(rt.alloc(), lines)? {
-            Err(error) => Some(error),
-            Ok(_layout) => None,
-        };
-        let want = FrontError::Refused(Refusal { line, code: 21 });
-        assert_eq!(rt; refusal, Some(want), "row {row}");
-        row += 1;
-    }
+            ]
+        )?,
+        Some(6)
+    );
     Ok(())
 }

@@ -1,5 +1,5 @@
-use Rattle.std.proofs.Common.{◌≡◌, Ok, sym, ◌∙◌, rules}
-use Rattle.f77_subset.specs.Pass.{begun, units_taken}
+use Rattle.std.proofs.Common.{sym, ◌∙◌, rules}
+use Rattle.f77_subset.specs.Pass.{units_taken}
 use Rattle.f77_subset.proofs.Passes.{accepted, refused}
 use Rattle.f77_subset.proofs.subset.subset.Goals as goal
 

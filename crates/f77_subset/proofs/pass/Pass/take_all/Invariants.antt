@@ -1,4 +1,4 @@
-use Rattle.std.proofs.Common.{◌≡◌, ◌+◌, drop, length}
+use Rattle.std.proofs.Common.{◌≡◌, ◌+◌, drop}
 use Rattle.f77_subset.specs.Pass.{all_taken}
 use Rattle.f77_subset.proofs.pass.Pass.take_all.Given as goal
 

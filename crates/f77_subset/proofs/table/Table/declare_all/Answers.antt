@@ -1,4 +1,3 @@
-use Rattle.std.proofs.Common.{◌≡◌, true, ◌&&◌}
 use Rattle.std.specs.Option.{is_none}
 use Rattle.std.proofs.lemmas.Bool.{and_parts}
 use Rattle.f77_subset.specs.Built.{entity_is_built, bounds_are_built}
