@@ -1,0 +1,9 @@
+pub mod Admits
+pub mod Firsts
+pub mod Lists
+pub mod Passes
+pub mod Resolves
+pub mod Running
+pub mod Satisfies
+pub mod Standing
+pub mod Statements

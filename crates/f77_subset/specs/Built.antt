@@ -1,0 +1,117 @@
+-- Which statements are built so far. The meaning of all others joins later, and until then they are refused.
+use Rattle.std.specs.Prelude.{Bool, true, false, ◌&&◌, List, [], ◌∷◌, Option, None, Some}
+use Rattle.std.specs.List.{list_all}
+use Rattle.std.specs.Option.{is_none}
+use Rattle.f77_ast.specs.declared.expr.Expr.{Expr, out-Expr}
+use Rattle.f77_ast.specs.declared.expr.Expr.TheFolds.{fold-Expr, fold-Ref}
+use Rattle.f77_ast.specs.declared.expr.Expr.TheOpen.{Expr-F, Part-F, Ref-F}
+use Rattle.f77_ast.specs.declared.expr.Expr.TheOpen as layer
+use Rattle.f77_ast.specs.declared.expr.Op.{Op}
+use Rattle.f77_ast.specs.declared.expr.Op.TheVariants.{Plus, Neg, Add, Sub, Mul, Div, Pow}
+use Rattle.f77_ast.specs.declared.expr.Part.{Part}
+use Rattle.f77_ast.specs.declared.expr.Ref.{Ref}
+use Rattle.f77_ast.specs.declared.specification.Bound.{Bound}
+use Rattle.f77_ast.specs.declared.specification.TypeSpec.{TypeSpec}
+use Rattle.f77_ast.specs.declared.specification.TypeSpec.TheVariants.{Integer}
+use Rattle.f77_ast.specs.declared.specification.TypedDeclarator.{TypedDeclarator}
+use Rattle.f77_ast.specs.declared.stmt.Item.{Item, Plain}
+use Rattle.f77_ast.specs.declared.stmt.LoopControl.{LoopControl}
+use Rattle.f77_ast.specs.declared.stmt.Stmt.{Stmt, Assign, Do, Continue, End, Print, Program, Declare}
+
+-- `+` and `-` before an operand
+abbrev pub is_sign : Op → Bool
+is_sign Plus = true
+is_sign Neg = true
+is_sign _ = false
+
+-- `+`, `-`, `*`, `/` and `**` between two operands
+abbrev pub is_arithmetic : Op → Bool
+is_arithmetic Add = true
+is_arithmetic Sub = true
+is_arithmetic Mul = true
+is_arithmetic Div = true
+is_arithmetic Pow = true
+is_arithmetic _ = false
+
+-- no subscript, or one
+abbrev pub has_one_at_most : Option (List Bool) → Bool
+has_one_at_most None = true
+has_one_at_most (Some (subscript ∷ [])) = subscript
+has_one_at_most _ = false
+
+-- numbers, references with one subscript at most and no substring, arithmetic operators and parentheses
+abbrev pub expr_step : Expr-F Bool (Unit {0}) Bool → Bool
+expr_step (layer.Int value) = true
+expr_step (layer.Truth value) = false
+expr_step (layer.Chars text) = false
+expr_step (layer.Ref reference) = reference
+expr_step (layer.Unary op operand) = is_sign op && operand
+expr_step (layer.Binary op left right) = is_arithmetic op && (left && right)
+expr_step (layer.Paren inner) = inner
+
+abbrev pub part_step : Part-F Bool (Unit {0}) Bool → Unit {0}
+part_step part = tt
+
+abbrev pub ref_step : Ref-F Bool (Unit {0}) Bool → Bool
+ref_step reference = is_none reference.part && has_one_at_most reference.args
+
+-- whether an expression is built
+abbrev pub expr_is_built : Expr → Bool
+expr_is_built = fold-Expr Bool (Unit {0}) Bool expr_step part_step ref_step
+
+-- whether a reference is
+abbrev pub ref_is_built : Ref → Bool
+ref_is_built = fold-Ref Bool (Unit {0}) Bool expr_step part_step ref_step
+
+-- whether an expression that may be left out is
+abbrev pub step_is_built : Option Expr → Bool
+step_is_built None = true
+step_is_built (Some step) = expr_is_built step
+
+-- whether the control of a DO statement is
+abbrev pub control_is_built : LoopControl → Bool
+control_is_built control = expr_is_built control.first && (expr_is_built control.last && step_is_built control.step)
+
+-- whether an item of PRINT is: no implied DO
+abbrev pub item_is_built : Item → Bool
+item_is_built (Plain value) = expr_is_built value
+item_is_built _ = false
+
+-- digits
+abbrev pub is_digits : Expr-F Expr Part Ref → Bool
+is_digits (layer.Int value) = true
+is_digits _ = false
+
+abbrev pub is_upper : Option Expr → Bool
+is_upper None = false
+is_upper (Some bound) = is_digits (out-Expr bound)
+
+-- a dimension with digits as its upper bound alone
+abbrev pub bound_is_built : Bound → Bool
+bound_is_built bound = is_none bound.low && is_upper bound.high
+
+-- no dimension, or one
+abbrev pub bounds_are_built : List Bound → Bool
+bounds_are_built [] = true
+bounds_are_built (bound ∷ []) = bound_is_built bound
+bounds_are_built _ = false
+
+-- a declared name without a length of its own
+abbrev pub entity_is_built : TypedDeclarator → Bool
+entity_is_built entity = is_none entity.length && bounds_are_built entity.declarator.bounds
+
+abbrev pub is_integer_type : TypeSpec → Bool
+is_integer_type Integer = true
+is_integer_type _ = false
+
+-- whether a statement is built: PROGRAM; INTEGER of variables and arrays of one dimension; assignments, DO, CONTINUE and
+-- PRINT of such expressions; END
+abbrev pub is_built : Stmt → Bool
+is_built (Assign target value) = ref_is_built target && expr_is_built value
+is_built (Do terminal control) = control_is_built control
+is_built Continue = true
+is_built End = true
+is_built (Print items) = list_all item_is_built items
+is_built (Program name) = true
+is_built (Declare typ entities) = is_integer_type typ && list_all entity_is_built entities
+is_built _ = false

@@ -1,0 +1,28 @@
+-- What a file whose statements are built and keep the rules satisfies.
+use Rattle.std.specs.Prelude.{◌≡◌, List, All, IsTrue, Ok}
+use Rattle.f77_ast.specs.declared.program.Layout.{Layout}
+use Rattle.f77_ast.specs.declared.program.Loop.{Loop}
+use Rattle.f77_ast.specs.declared.program.Unit.{Unit as ProgramUnit}
+use Rattle.f77_meaning.specs.Sound.{statement_resolves}
+use Rattle.f77_meaning.specs.Storage.{IsStorage, IsLaidOut}
+use Rattle.f77_subset.specs.Built.{is_built}
+use Rattle.f77_subset.specs.Subset.{listing_of, subset_of}
+
+-- each name lies in storage, which has an opening value for each unit
+abbrev pub LayoutsAreStorage : Type 0
+LayoutsAreStorage = (loops : List Loop) (units : List ProgramUnit) (layout : Layout) → subset_of loops units ≡ Ok layout → IsStorage layout
+
+-- each name stands where those before it end, and is a region of its own
+abbrev pub LayoutsAreLaidOut : Type 0
+LayoutsAreLaidOut = (loops : List Loop) (units : List ProgramUnit) (layout : Layout) → subset_of loops units ≡ Ok layout → IsLaidOut layout
+
+-- all statements are built
+abbrev pub StatementsAreBuilt : Type 0
+StatementsAreBuilt =
+    (loops : List Loop) (units : List ProgramUnit) (layout : Layout) → subset_of loops units ≡ Ok layout → All (λ listed. IsTrue (is_built listed.stmt)) (listing_of units)
+
+-- all references name entities of the layout
+abbrev pub StatementsResolve : Type 0
+StatementsResolve =
+    (loops : List Loop) (units : List ProgramUnit) (layout : Layout) → subset_of loops units ≡ Ok layout
+    → All (λ listed. IsTrue (statement_resolves layout 0 listed.stmt)) (listing_of units)

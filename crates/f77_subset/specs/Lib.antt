@@ -1,0 +1,10 @@
+pub mod Built
+pub mod Laws
+pub mod Names
+pub mod Pass
+pub mod Ranges
+pub mod Storage
+pub mod Rules
+pub mod Subset
+pub mod Table
+pub mod Units

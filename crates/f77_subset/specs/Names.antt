@@ -1,0 +1,132 @@
+-- The names of statements: those that INTEGER declares, those that stand in the other statements, and that of PROGRAM.
+use Rattle.std.specs.Prelude.{ℕ, Bool, false, not, List, [], ◌∷◌, ◌++◌, map, filter, Option, None, Some, nat_eq}
+use Rattle.std.specs.Cmp.Lexicographic.{pointwise}
+use Rattle.std.specs.List.{flat_map}
+use Rattle.f77_ast.specs.declared.expr.Expr.{Expr}
+use Rattle.f77_ast.specs.declared.expr.Expr.TheOpen.{Expr-F, Part-F, Ref-F}
+use Rattle.f77_ast.specs.declared.expr.Expr.TheOpen as layer
+use Rattle.f77_ast.specs.declared.expr.Expr.TheFolds.{fold-Expr, fold-Ref}
+use Rattle.f77_ast.specs.declared.expr.Ref.{Ref}
+use Rattle.f77_ast.specs.declared.specification.Declarator.{Declarator}
+use Rattle.f77_ast.specs.declared.stmt.Item.{Item, Plain}
+use Rattle.f77_ast.specs.declared.stmt.LoopControl.{LoopControl}
+use Rattle.f77_ast.specs.declared.stmt.Stmt.{Stmt, Declare, Assign, Do, Print, Program}
+use Rattle.f77_subset.specs.declared.names.Mention.{Mention}
+use Rattle.f77_subset.specs.declared.names.Standing.{Standing}
+use Rattle.f77_subset.specs.declared.names.Standing.TheVariants.{Variable, Element, WholeItem}
+
+-- the names in the subscripts of a reference
+abbrev pub in_subscripts : Option (List (List Mention)) → List Mention
+in_subscripts None = []
+in_subscripts (Some all) = flat_map (λ names. names) all
+
+-- one level: from left to right
+abbrev pub expr_step : Expr-F (List Mention) (Unit {0}) (List Mention) → List Mention
+expr_step (layer.Ref names) = names
+expr_step (layer.Unary op names) = names
+expr_step (layer.Binary op left right) = left ++ right
+expr_step (layer.Paren names) = names
+expr_step _ = []
+
+abbrev pub part_step : Part-F (List Mention) (Unit {0}) (List Mention) → Unit {0}
+part_step part = tt
+
+-- how a name stands before subscripts that may be there
+abbrev pub standing_by : {A : Type 0} → Option A → Standing
+standing_by None = Variable
+standing_by (Some subscripts) = Element
+
+-- a name before those in its subscripts
+abbrev pub ref_step : Ref-F (List Mention) (Unit {0}) (List Mention) → List Mention
+ref_step ref = record { name = ref.name; standing = standing_by ref.args } ∷ in_subscripts ref.args
+
+-- the names in an expression, in the order of its text
+abbrev pub names_in : Expr → List Mention
+names_in = fold-Expr (List Mention) (Unit {0}) (List Mention) expr_step part_step ref_step
+
+-- the names in a reference, in the order of its text
+abbrev pub names_in_reference : Ref → List Mention
+names_in_reference = fold-Ref (List Mention) (Unit {0}) (List Mention) expr_step part_step ref_step
+
+-- the name that an expression is, where it is nothing but a name
+abbrev pub alone_step : Expr-F (Option (List ℕ)) (Unit {0}) (Option (List ℕ)) → Option (List ℕ)
+alone_step (layer.Ref name) = name
+alone_step _ = None
+
+abbrev pub alone_part : Part-F (Option (List ℕ)) (Unit {0}) (Option (List ℕ)) → Unit {0}
+alone_part part = tt
+
+-- neither subscripts nor a substring follow it
+abbrev pub unless_followed : List ℕ → Option (List (Option (List ℕ))) → Option (Unit {0}) → Option (List ℕ)
+unless_followed name None None = Some name
+unless_followed name args part = None
+
+abbrev pub alone_ref : Ref-F (Option (List ℕ)) (Unit {0}) (Option (List ℕ)) → Option (List ℕ)
+alone_ref ref = unless_followed ref.name ref.args ref.part
+
+-- the name that a reference is
+abbrev pub lone_name : Ref → Option (List ℕ)
+lone_name = fold-Ref (Option (List ℕ)) (Unit {0}) (Option (List ℕ)) alone_step alone_part alone_ref
+
+abbrev pub name_alone : Expr → Option (List ℕ)
+name_alone = fold-Expr (Option (List ℕ)) (Unit {0}) (Option (List ℕ)) alone_step alone_part alone_ref
+
+-- the names in an item of PRINT: one that is the whole item may be an array's
+abbrev pub as_item : Option (List ℕ) → List Mention → List Mention
+as_item (Some name) names = record { name = name; standing = WholeItem } ∷ []
+as_item None names = names
+
+abbrev pub names_in_item : Item → List Mention
+names_in_item (Plain value) = as_item (name_alone value) (names_in value)
+names_in_item _ = []
+
+-- the names in a parameter of a DO statement that may be left out
+abbrev pub names_in_step : Option Expr → List Mention
+names_in_step None = []
+names_in_step (Some value) = names_in value
+
+-- the names in the control of a DO statement: its variable, and those in its parameters
+abbrev pub names_in_control : LoopControl → List Mention
+names_in_control control = record { name = control.variable; standing = Variable } ∷ (names_in control.first ++ (names_in control.last ++ names_in_step control.step))
+
+-- the names that stand in a statement that declares nothing, in the order of its text
+abbrev pub mentioned_in : Stmt → List Mention
+mentioned_in (Assign target value) = names_in_reference target ++ names_in value
+mentioned_in (Do terminal control) = names_in_control control
+mentioned_in (Print items) = flat_map names_in_item items
+mentioned_in _ = []
+
+-- the names, with their bounds, that a statement declares
+abbrev pub declared_in : Stmt → List Declarator
+declared_in (Declare typ entities) = map (λ entity. entity.declarator) entities
+declared_in _ = []
+
+-- whether a statement is the PROGRAM statement of this name
+abbrev pub is_program_of : (name : List ℕ) → Stmt → Bool
+is_program_of name (Program other) = pointwise nat_eq name other
+is_program_of name _ = false
+
+-- a name that isn't declared is no array
+abbrev pub undeclared : Mention → Declarator
+undeclared mention = record { name = mention.name; bounds = [] }
+
+-- whether a declaration is of this name
+abbrev pub is_of : (name : List ℕ) → Declarator → Bool
+is_of name declarator = pointwise nat_eq name declarator.name
+
+-- the first of each name
+abbrev pub firsts : List Declarator → List Declarator
+firsts [] = []
+firsts (d ∷ ds) = d ∷ filter (λ later. not (is_of later.name d)) (firsts ds)
+
+-- the names of variables and arrays in a statement, in the order of its text, each with the bounds that it gives
+abbrev pub appearing_in : Stmt → List Declarator
+appearing_in s = declared_in s ++ map undeclared (mentioned_in s)
+
+-- the names of variables and arrays in some statements, each once, in the order of their first appearance
+abbrev pub names_of : List Stmt → List Declarator
+names_of statements = firsts (flat_map appearing_in statements)
+
+-- the names that some statements declare
+abbrev pub declarations : List Stmt → List Declarator
+declarations statements = flat_map declared_in statements

@@ -1,0 +1,126 @@
+//! Which statements are built so far.
+ghost use Rattle.std.specs.Prelude.{◌≡◌, map};
+ghost use Rattle.std.specs.List.{list_all};
+ghost use Rattle.std.specs.Option.{option_map};
+ghost use Rattle.f77_subset.specs.Built as spec;
+
+use crate::built_declarations::{are_built, is_integer_type};
+use f77_ast::expr::{Expr, Op, Ref};
+use f77_ast::stmt::{Item, LoopControl, Stmt};
+use sqlite_items::Items;
+
+/// Whether an operator is `+` or `-` before its operand.
+fn is_sign(operator: Op) -> bool
+    ensures { result ≡ spec.is_sign operator }
+{
+    match operator {
+        Op::Plus => true,
+        Op::Neg => true,
+        _ => false,
+    }
+}
+
+/// Whether an operator is `+`, `-`, `*`, `/` or `**` between two operands.
+fn is_arithmetic(operator: Op) -> bool
+    ensures { result ≡ spec.is_arithmetic operator }
+{
+    match operator {
+        Op::Add => true,
+        Op::Sub => true,
+        Op::Mul => true,
+        Op::Div => true,
+        Op::Pow => true,
+        _ => false,
+    }
+}
+
+/// Whether an expression is: numbers, references with one subscript at most, arithmetic operators and parentheses.
+#[cycle(built)]
+fn expr_is_built(tree: &Expr) -> bool
+    ensures { result ≡ spec.expr_is_built tree.now }
+{
+    match tree {
+        Expr::Int(_value) => true,
+        Expr::Truth(_value) => false,
+        Expr::Chars(_text) => false,
+        Expr::Ref(found) => ref_is_built(found),
+        Expr::Unary(operator, operand) => is_sign(*operator) && expr_is_built(operand.get()),
+        Expr::Binary(operator, left, right) => {
+            is_arithmetic(*operator) && expr_is_built(left.get()) && expr_is_built(right.get())
+        }
+        Expr::Paren(inner) => expr_is_built(inner.get()),
+    }
+}
+
+/// Whether a reference is: with one subscript at most, and no substring.
+#[cycle(built)]
+fn ref_is_built(found: &Ref) -> bool
+    ensures { result ≡ spec.ref_is_built found.now }
+{
+    found.part.is_none() && subscript_is_built(&found.args)
+}
+
+/// Whether the subscripts of a reference are: one at most.
+#[cycle(built)]
+fn subscript_is_built(args: &Option<Items<Expr>>) -> bool
+    ensures { result ≡ spec.has_one_at_most (option_map (map spec.expr_is_built) args.now) }
+{
+    match args {
+        None => true,
+        Some(subscripts) => match subscripts.as_slice() {
+            [subscript] => expr_is_built(subscript),
+            _ => false,
+        },
+    }
+}
+
+/// Whether a parameter of a DO statement that may be left out is.
+fn step_is_built(step: &Option<Expr>) -> bool
+    ensures { result ≡ spec.step_is_built step.now }
+{
+    match step {
+        None => true,
+        Some(value) => expr_is_built(value),
+    }
+}
+
+/// Whether the control of a DO statement is.
+fn control_is_built(control: &LoopControl) -> bool
+    ensures { result ≡ spec.control_is_built control.now }
+{
+    expr_is_built(&control.first) && expr_is_built(&control.last) && step_is_built(&control.step)
+}
+
+/// Whether an item of PRINT is: no implied DO.
+fn item_is_built(item: &Item) -> bool
+    ensures { result ≡ spec.item_is_built item.now }
+{
+    match item {
+        Item::Plain(value) => expr_is_built(value),
+        Item::Implied(_items, _control) => false,
+    }
+}
+
+/// Whether the items of PRINT are.
+fn items_are_built(items: &[Item]) -> bool
+    ensures { result ≡ list_all spec.item_is_built items.now }
+{
+    items.iter().all(|item| item_is_built(item))
+}
+
+/// Whether a statement is: PROGRAM; INTEGER of variables and arrays of one dimension; assignments, DO, CONTINUE and PRINT
+/// of such expressions; END.
+pub fn is_built(stmt: &Stmt) -> bool
+    ensures { result ≡ spec.is_built stmt.now }
+{
+    match stmt {
+        Stmt::Assign { target, value } => ref_is_built(target) && expr_is_built(value),
+        Stmt::Do { control, .. } => control_is_built(control),
+        Stmt::Continue => true,
+        Stmt::End => true,
+        Stmt::Print(items) => items_are_built(items.as_slice()),
+        Stmt::Program(_name) => true,
+        Stmt::Declare { typ, entities } => is_integer_type(typ) && are_built(entities.as_slice()),
+        _ => false,
+    }
+}

@@ -1,0 +1,22 @@
+//! Laws of the files that are built so far: functions with nothing to do.
+ghost use Rattle.f77_subset.specs.Laws.{LayoutsAreStorage, LayoutsAreLaidOut, StatementsAreBuilt, StatementsResolve};
+
+/// A law: where a file is built, each name lies in storage, which has an opening value for each unit.
+pub fn law_of_storage()
+    ensures { LayoutsAreStorage }
+{}
+
+/// A law: where a file is built, each name stands in storage where those before it end, and is a region of its own.
+pub fn law_of_layouts()
+    ensures { LayoutsAreLaidOut }
+{}
+
+/// A law: where a file is built, each of its statements is.
+pub fn law_of_statements()
+    ensures { StatementsAreBuilt }
+{}
+
+/// A law: where a file is built, all references of its statements name entities of its layout.
+pub fn law_of_references()
+    ensures { StatementsResolve }
+{}

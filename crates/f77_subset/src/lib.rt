@@ -1,0 +1,19 @@
+//! The part of the language that is built so far: which statements, the rules on their names, and their storage.
+//!
+//! One pass over the statements of a file: the names go into one table, which is proved to be the table of all statements
+//! so far, and the DO variables into another, which is proved to tell in whose range a statement stands.
+#![tactic(auto)]
+
+mod broken;
+mod built;
+mod built_declarations;
+pub mod laws;
+mod mentions;
+pub mod names;
+mod pass;
+mod ranges;
+pub mod subset;
+mod table;
+#[cfg(test)]
+mod tests;
+mod units;
