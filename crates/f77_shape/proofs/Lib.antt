@@ -2,7 +2,9 @@ pub mod Accepted
 pub mod AcceptedUnits
 pub mod AddLemmas
 pub mod CountLemmas
+pub mod CrossingLemmas
 pub mod Firsts
 pub mod NameLemmas
+pub mod OpenerLemmas
 pub mod RuleLemmas
 pub mod UnitLemmas

@@ -1,12 +1,14 @@
 pub mod Blocks
 pub mod Breaks
 pub mod Counts
+pub mod Held
 pub mod Jumps
 pub mod Labels
 pub mod Laws
 pub mod Limits
 pub mod NameSets
 pub mod Names
+pub mod Openers
 pub mod Order
 pub mod Places
 pub mod Program

@@ -3,7 +3,7 @@ ghost use Rattle.std.specs.Prelude.{◌≡◌};
 ghost use Rattle.std.specs.List.{list_any};
 ghost use Rattle.f77_cards.specs.Cards.{first_of};
 ghost use Rattle.f77_shape.specs.Breaks.{broken_by};
-ghost use Rattle.f77_shape.specs.Jumps.{is_entered, enters, jumps_in};
+ghost use Rattle.f77_shape.specs.Jumps.{enters, jumps_in};
 ghost use Rattle.f77_shape.specs.Labels.{gone_to, jumps_of, target_in};
 ghost use Rattle.f77_shape.specs.Places.{ArePlaces};
 ghost use Rattle.f77_ast.specs.declared.program.Listed.{Listed};
@@ -11,20 +11,10 @@ ghost use Rattle.std.specs.Prelude.{List};
 
 use crate::breaks::{JUMP_INTO_RANGE, sooner, when};
 use crate::places::Places;
-use crate::stretches::{Stretch, holds};
 use crate::targets::inner_of;
 use f77_ast::program::Listed;
 use f77_ast::refusal::Refusal;
 use f77_ast::stmt::{Label, Stmt};
-
-/// Whether one of some stretches holds the place of a jump's label, and not the place of the jump.
-fn enters_one_of(stretches: &[Stretch], from: usize, to: usize) -> bool
-    ensures { result ≡ list_any (is_entered from to) stretches.now }
-{
-    stretches
-        .iter()
-        .any(|stretch| holds(stretch, to) && !holds(stretch, from))
-}
 
 /// Whether a jump from a place to a label enters a DO range or an IF block.
 fn enters(places: &Places, from: usize, label: Label) -> bool
@@ -32,10 +22,7 @@ fn enters(places: &Places, from: usize, label: Label) -> bool
 {
     match places.targets.find(label) {
         None => false,
-        Some(to) => {
-            enters_one_of(places.ranges.as_slice(), from, to)
-                || enters_one_of(places.blocks.as_slice(), from, to)
-        }
+        Some(to) => places.ranges.is_entered(from, to) || places.blocks.is_entered(from, to),
     }
 }
 

@@ -7,11 +7,13 @@
 
 mod blocks;
 mod breaks;
+mod held;
 mod jumps;
 mod labels;
 pub mod laws;
 mod limits;
 mod names;
+mod openers;
 mod order;
 mod places;
 mod program;

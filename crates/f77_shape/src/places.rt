@@ -2,7 +2,8 @@
 ghost use Rattle.std.specs.Prelude.{IfOk};
 ghost use Rattle.f77_shape.specs.Places.{ArePlaces};
 
-use crate::stretches::{Stretch, blocks_of, ranges_of};
+use crate::held::{Held, hold};
+use crate::stretches::{blocks_of, ranges_of};
 use crate::targets::{Targets, targets_of};
 use f77_ast::program::Listed;
 use hyb_base::no_memory::NoMemory;
@@ -14,9 +15,9 @@ pub struct Places {
     /// What its labels mean.
     pub targets: Targets,
     /// Its DO ranges.
-    pub ranges: Vec<Stretch>,
+    pub ranges: Held,
     /// Its IF blocks.
-    pub blocks: Vec<Stretch>,
+    pub blocks: Held,
 }
 
 /// The tables of a unit.
@@ -26,6 +27,8 @@ pub fn places_of(alloc: Global, unit: &[Listed]) -> Result<Places, NoMemory>
     let targets = targets_of(alloc, unit)?;
     let ranges = ranges_of(alloc, unit, &targets)?;
     let blocks = blocks_of(alloc, unit)?;
+    let ranges = hold(alloc, unit.len(), ranges)?;
+    let blocks = hold(alloc, unit.len(), blocks)?;
     Ok(Places {
         targets,
         ranges,

@@ -1,6 +1,5 @@
 //! DO ranges: their terminal statements, and how they nest (ANSI X3.9-1978, sections 11.10 and 11.10.1).
-ghost use Rattle.std.specs.Prelude.{◌≡◌, List, slice_get, ◌||◌, Some};
-ghost use Rattle.std.specs.List.{list_any};
+ghost use Rattle.std.specs.Prelude.{◌≡◌, ◌<◌, ◌-◌, ◌^◌, List, length, slice_get, ◌||◌, Some};
 ghost use Rattle.f77_ast.specs.declared.program.Listed.{Listed};
 ghost use Rattle.f77_cards.specs.Cards.{first_of};
 ghost use Rattle.f77_meaning.specs.Loops.{terminal_of};
@@ -8,12 +7,10 @@ ghost use Rattle.f77_meaning.specs.Ranges.{may_end_range};
 ghost use Rattle.f77_shape.specs.Breaks.{broken_by};
 ghost use Rattle.f77_shape.specs.Labels.{target_in};
 ghost use Rattle.f77_shape.specs.Places.{ArePlaces};
-ghost use Rattle.f77_shape.specs.Ranges.{may_end, crosses, is_one_of, breaks_to, breaks_with, breaks_range};
-ghost use Rattle.f77_shape.specs.Stretches.{holds};
+ghost use Rattle.f77_shape.specs.Ranges.{may_end, crosses_a_range, leaves_a_block, breaks_to, breaks_with, breaks_range};
 
 use crate::breaks::{DO_NESTING, sooner, when};
 use crate::places::Places;
-use crate::stretches::{Stretch, holds};
 use crate::targets::{is_executable, terminal_of};
 use f77_ast::program::Listed;
 use f77_ast::refusal::Refusal;
@@ -49,38 +46,31 @@ fn may_end(unit: &[Listed], place: usize) -> bool
     }
 }
 
-/// Whether a DO statement stands in the range of another, whose terminal statement its own one stands behind.
-fn crosses(outer: &Stretch, inner: &Stretch) -> bool
-    ensures { result ≡ crosses outer.now inner.now }
+/// Whether the range of a DO statement crosses one of the ranges of its unit: one that holds the DO statement and not its
+/// terminal statement, or one that opens behind the DO statement and holds the place behind its terminal statement.
+fn crosses_a_range(places: &Places, place: usize, target: usize) -> bool
+    requires behind { place < target }
+    requires room { target < 2 ^ 64 - 1 }
+    ensures { (unit : List Listed) → ArePlaces unit places.now → result ≡ crosses_a_range unit (record { opens = place; last = target }) }
 {
-    holds(outer, inner.opens) && outer.last < inner.last
+    places.ranges.is_entered(target, place) || places.ranges.is_entered(place + 1, target + 1)
 }
 
-/// Whether a range crosses one of some ranges.
-fn crosses_one_of(ranges: &[Stretch], range: &Stretch) -> bool
-    ensures { result ≡ list_any (λ other. crosses range.now other || crosses other range.now) ranges.now }
+/// Whether one of the blocks of a unit holds only one of a DO statement and its terminal statement.
+fn leaves_a_block(places: &Places, place: usize, target: usize) -> bool
+    ensures { (unit : List Listed) → ArePlaces unit places.now → result ≡ leaves_a_block unit (record { opens = place; last = target }) }
 {
-    ranges
-        .iter()
-        .any(|other| crosses(range, other) || crosses(other, range))
+    places.blocks.is_entered(target, place) || places.blocks.is_entered(place, target)
 }
 
-/// Whether a block holds only one of a DO statement and its terminal statement.
-fn holds_one(block: &Stretch, range: &Stretch) -> bool
-    ensures { result ≡ is_one_of (holds block.now range.now.opens) (holds block.now range.now.last) }
+/// Whether the range of a DO statement to a terminal statement behind it breaks the rules.
+fn breaks_behind(unit: &[Listed], places: &Places, place: usize, target: usize) -> bool
+    requires places { ArePlaces unit.now places.now }
+    requires behind { place < target }
+    requires room { target < length unit.now }
+    ensures { result ≡ (crosses_a_range unit.now (record { opens = place; last = target }) || leaves_a_block unit.now (record { opens = place; last = target })) }
 {
-    if holds(block, range.opens) {
-        !holds(block, range.last)
-    } else {
-        holds(block, range.last)
-    }
-}
-
-/// Whether one of some blocks holds only one of a DO statement and its terminal statement.
-fn leaves_one_of(blocks: &[Stretch], range: &Stretch) -> bool
-    ensures { result ≡ list_any (λ block. is_one_of (holds block range.now.opens) (holds block range.now.last)) blocks.now }
-{
-    blocks.iter().any(|block| holds_one(block, range))
+    crosses_a_range(places, place, target) || leaves_a_block(places, place, target)
 }
 
 /// Whether the range of a DO statement to this place breaks the rules.
@@ -88,13 +78,11 @@ fn breaks_to(unit: &[Listed], places: &Places, place: usize, target: usize) -> b
     requires { ArePlaces unit.now places.now }
     ensures { result ≡ breaks_to unit.now place (Some target) }
 {
-    let range = Stretch {
-        opens: place,
-        last: target,
-    };
-    !(place < target && may_end(unit, target))
-        || crosses_one_of(places.ranges.as_slice(), &range)
-        || leaves_one_of(places.blocks.as_slice(), &range)
+    if place < target && target < unit.len() && may_end(unit, target) {
+        breaks_behind(unit, places, place, target)
+    } else {
+        true
+    }
 }
 
 /// The place of the first executable statement of a unit with a label.

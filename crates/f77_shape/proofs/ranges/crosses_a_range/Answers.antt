@@ -1,0 +1,17 @@
+use Rattle.std.proofs.Common.{◌+◌, sym, ◌∙◌}
+use Rattle.std.specs.List.{list_any}
+use Rattle.f77_shape.specs.Jumps.{is_entered}
+use Rattle.f77_shape.specs.Stretches.{ranges_of}
+use Rattle.f77_shape.proofs.CrossingLemmas.{any_crosses}
+use Rattle.f77_shape.proofs.OpenerLemmas.{first_of_two, second_of_two}
+use Rattle.f77_shape.proofs.ranges.crosses_a_range.Goals as goal
+
+pub returns-then-is_entered : goal.returns-then-is_entered
+returns-then-is_entered c = λ unit places.
+    first_of_two c.is_entered.result (list_any (is_entered c.args.target c.args.place) (ranges_of unit)) (list_any (is_entered (c.args.place + 1) (c.args.target + 1)) (ranges_of unit)) (c.is_entered.ensures (ranges_of unit) places.ranges) c.if-is_entered.true
+    ∙ sym (any_crosses c.args.place c.args.target (ranges_of unit) c.requires.behind)
+
+pub returns-else-is_entered : goal.returns-else-is_entered
+returns-else-is_entered c = λ unit places.
+    second_of_two c.is_entered.result c.is_entered-else-is_entered.result (list_any (is_entered c.args.target c.args.place) (ranges_of unit)) (list_any (is_entered (c.args.place + 1) (c.args.target + 1)) (ranges_of unit)) (c.is_entered.ensures (ranges_of unit) places.ranges) c.if-is_entered.false (c.is_entered-else-is_entered.ensures (ranges_of unit) places.ranges)
+    ∙ sym (any_crosses c.args.place c.args.target (ranges_of unit) c.requires.behind)
