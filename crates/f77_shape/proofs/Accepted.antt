@@ -1,28 +1,28 @@
 -- What every accepted file satisfies.
-use Rattle.std.proofs.Common.{◌≡◌, ◌≢◌, ℕ, zero, suc, ◌+◌, ◌-◌, ◌<◌, ◌≤◌, Bool, true, false, not, ◌&&◌, ◌||◌, nat_lt, List, [], ◌∷◌, ◌++◌, map, length, drop, Option, None, Some, Ok, Err, if◌then◌else◌, refl, sym, ap, ◌∙◌, subst, arith, slice_get, append-nil, length-append, add-one, IsTrue}
+use Rattle.std.proofs.Common.{◌≡◌, ◌≢◌, ℕ, zero, suc, ◌+◌, ◌<◌, ◌≤◌, Bool, true, false, not, ◌&&◌, ◌||◌, nat_lt, List, [], ◌∷◌, ◌++◌, map, length, drop, Option, None, Some, Ok, if◌then◌else◌, refl, sym, ap, ◌∙◌, subst, arith, slice_get, length-append}
 use Rattle.std.proofs.lemmas.Bool.Decides.{nat_tests}
 use Rattle.std.proofs.lemmas.List.Elements.{All-cons}
 use Rattle.std.specs.Prelude.{All}
-use Rattle.std.specs.List.{flat_map, list_any, position_or_len}
+use Rattle.std.specs.List.{flat_map, list_any}
 use Rattle.std.specs.Option.{option_to_list, option_and_then}
 use Rattle.f77_ast.specs.declared.program.Listed.{Listed}
 use Rattle.f77_ast.specs.declared.program.Unit.{Unit as ProgramUnit}
 use Rattle.f77_ast.specs.declared.refusal.Refusal.{Refusal}
 use Rattle.f77_cards.specs.Cards.{when, first_of}
 use Rattle.f77_meaning.specs.Loops.{terminal_of, has_label, distance_to, statements_of}
-use Rattle.f77_meaning.specs.Ranges.{may_end_range, IsDo, terminal_at, HasRange, RangesNest}
+use Rattle.f77_meaning.specs.Ranges.{IsDo, terminal_at, HasRange, RangesNest}
 use Rattle.f77_shape.specs.declared.stretches.Stretch.{Stretch}
 use Rattle.f77_shape.specs.Blocks.{breaks_if, is_unended}
 use Rattle.f77_shape.specs.Breaks.{at, broken_by}
 use Rattle.f77_shape.specs.Jumps.{jumps_in}
 use Rattle.f77_shape.specs.Labels.{target_from, target_in, misses_label, doubles_label}
-use Rattle.f77_shape.specs.Laws.{AcceptedRangesNest, AcceptedFilesAreSmall, IsSmall}
+use Rattle.f77_shape.specs.Laws.{AcceptedRangesNest, AcceptedFilesAreSmall}
 use Rattle.f77_shape.specs.Limits.{statement_breaks, unit_breaks, name_breaks, statement_over, unit_over}
 use Rattle.f77_shape.specs.Order.{is_out_of_order}
 use Rattle.f77_shape.specs.Program.{main_breaks, end_breaks, first_refused}
 use Rattle.f77_shape.specs.Ranges.{may_end, crosses, crosses_a_range, leaves_a_block, breaks_to, breaks_with, breaks_range}
 use Rattle.f77_shape.specs.Shape.{breaks_in, breaks_among, breaks_of, unless_refused, shape_of}
-use Rattle.f77_shape.specs.Stretches.{holds, range_to, range_at, ranges_from, ranges_of}
+use Rattle.f77_shape.specs.Stretches.{range_to, range_at, ranges_from}
 use Rattle.f77_shape.specs.Units.{is_end, onto_first, cut, unit_of, units_of}
 
 -- ---- nothing is broken

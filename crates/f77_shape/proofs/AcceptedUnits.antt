@@ -1,11 +1,10 @@
 -- The units of every accepted file: each ends with END, and one is the main unit.
-use Rattle.std.proofs.Common.{◌≡◌, ◌≢◌, ℕ, zero, suc, ◌+◌, ◌-◌, Bool, true, false, not, ◌&&◌, ◌||◌, ◌==◌, List, [], ◌∷◌, ◌++◌, map, length, Option, None, Some, Ok, if◌then◌else◌, refl, sym, ap, ◌∙◌, subst, arith, slice_get}
+use Rattle.std.proofs.Common.{◌≡◌, ◌≢◌, ℕ, zero, suc, ◌-◌, Bool, true, false, not, ◌||◌, ◌==◌, List, [], ◌∷◌, ◌++◌, map, length, Option, None, Some, if◌then◌else◌, refl, sym, ap, ◌∙◌, subst, arith, slice_get}
 use Rattle.std.proofs.lemmas.List.Elements.{All-cons, All-nil}
 use Rattle.std.specs.Prelude.{All}
 use Rattle.std.specs.List.{flat_map, list_any}
 use Rattle.f77_ast.specs.declared.program.Listed.{Listed}
 use Rattle.f77_ast.specs.declared.program.Unit.{Unit as ProgramUnit}
-use Rattle.f77_ast.specs.declared.refusal.Refusal.{Refusal}
 use Rattle.f77_ast.specs.declared.stmt.Stmt.{Stmt, End}
 use Rattle.f77_ast.specs.declared.stmt.Stmt as stmt
 use Rattle.f77_cards.specs.Cards.{when}
@@ -14,7 +13,7 @@ use Rattle.f77_shape.specs.Breaks.{at}
 use Rattle.f77_shape.specs.Laws.{AcceptedUnitsEnd, AcceptedFilesHaveOneMain, HasOneMain}
 use Rattle.f77_shape.specs.Limits.{statement_breaks, unit_breaks, name_breaks}
 use Rattle.f77_shape.specs.Program.{main_breaks, second_mains, end_breaks, end_breaks_by, first_refused, no_program}
-use Rattle.f77_shape.specs.Shape.{breaks_in, breaks_among, shape_of}
+use Rattle.f77_shape.specs.Shape.{breaks_in, breaks_among}
 use Rattle.f77_shape.specs.Units.{is_end, is_main, onto_first, cut, unit_of, units_of}
 use Rattle.f77_shape.proofs.Accepted.{Nothing, nothing_broken, left_none, right_none, kept_when, have_statements, mapped, HasStatement}
 

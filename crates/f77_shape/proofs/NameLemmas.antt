@@ -20,7 +20,7 @@ use Rattle.f77_ast.specs.declared.stmt.Stmt.TheFolds.{fold-roll-Stmt}
 use Rattle.f77_ast.specs.declared.stmt.Stmt.TheOpen as stmt_layer
 use Rattle.f77_ast.specs.declared.stmt.Stmt.TheVariants as stmt
 use Rattle.f77_ast.specs.declared.stmt.Stmt.TheVariants.{rolls-LogicalIf}
-use Rattle.f77_shape.specs.Names.{expr_names, ref_names, args_names, option_part_names, option_names, item_names, control_names, all_names, list_names, names_if, names_in, expr_step, part_step, ref_step, item_step, stmt_step}
+use Rattle.f77_shape.specs.Names.{expr_names, ref_names, args_names, option_part_names, option_names, item_names, control_names, all_names, names_in, expr_step, part_step, ref_step, item_step, stmt_step}
 
 -- the names of parts, each by itself
 all_are : {A : Type 0} (f : A → List (List ℕ)) (xs : List A) → all_names (map f xs) ≡ flat_map f xs

@@ -1,14 +1,12 @@
 -- Openers of places: what the tables tell of all stretches.
-use Rattle.std.proofs.Common.{◌≡◌, ℕ, zero, suc, ◌+◌, ◌-◌, ◌<◌, ◌≤◌, ◌==◌, max, Bool, true, false, not, ◌&&◌, ◌||◌, nat_lt, List, [], ◌∷◌, ◌++◌, length, get_or, drop, map, slice_get, slice_index, Some, if◌then◌else◌, refl, sym, ap, ◌∙◌, arith}
+use Rattle.std.proofs.Common.{◌≡◌, ℕ, zero, suc, ◌-◌, ◌<◌, ◌≤◌, ◌==◌, max, Bool, true, false, not, ◌&&◌, ◌||◌, nat_lt, List, [], ◌∷◌, length, map, slice_index, if◌then◌else◌, refl, sym, ap, ◌∙◌, arith}
 use Rattle.std.proofs.lemmas.Bool.Decides.{nat_tests}
-use Rattle.std.proofs.lemmas.List.{drop_more}
 use Rattle.std.proofs.lemmas.Option.{slice_get_within, get_or_from_slice_get}
 use Rattle.std.specs.List.{list_any}
 use Rattle.f77_shape.specs.declared.stretches.Stretch.{Stretch}
 use Rattle.f77_shape.specs.Held.{ends_before, mirrored}
 use Rattle.f77_shape.specs.Jumps.{is_entered}
 use Rattle.f77_shape.specs.Openers.{opens_behind, AreOpeners, farthest_from, farthest, AreFarthest, opener_before, AreFound}
-use Rattle.f77_shape.specs.Stretches.{holds}
 use Rattle.f77_shape.proofs.CrossingLemmas.{any_either}
 use Rattle.f77_shape.proofs.RuleLemmas.{any_same}
 

@@ -1,5 +1,5 @@
 -- What the rules on labels, order and block IFs need of the loops over a unit.
-use Rattle.std.proofs.Common.{◌≡◌, ℕ, suc, ◌+◌, ◌-◌, ◌<◌, ◌≤◌, max, Bool, true, false, ◌||◌, ◌&&◌, nat_lt, List, [], ◌∷◌, ◌++◌, length, get_or, take, drop, Option, None, Some, if◌then◌else◌, refl, sym, ap, ◌∙◌, arith}
+use Rattle.std.proofs.Common.{◌≡◌, ℕ, suc, ◌+◌, ◌-◌, ◌<◌, ◌≤◌, max, Bool, ◌||◌, nat_lt, List, [], ◌∷◌, ◌++◌, length, get_or, take, drop, Option, None, Some, if◌then◌else◌, refl, sym, ap, ◌∙◌, arith}
 use Rattle.std.proofs.lemmas.Bool.Decides.{nat_tests}
 use Rattle.std.proofs.lemmas.List.{drop_more, take_more}
 use Rattle.std.proofs.lemmas.List.Folds.{list_any_more}
@@ -8,7 +8,6 @@ use Rattle.f77_ast.specs.declared.program.Listed.{Listed}
 use Rattle.f77_meaning.specs.Loops.{is_label, has_label}
 use Rattle.f77_shape.specs.Blocks.{opened_by, open_after, open_at, ends_count, ends_in}
 use Rattle.f77_shape.specs.Labels.{target_from, has_any}
-use Rattle.f77_shape.specs.Order.{part_of}
 use Rattle.f77_shape.specs.Tables.{is_seen}
 
 -- a test of some statement among those up to a place

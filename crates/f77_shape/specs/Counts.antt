@@ -1,7 +1,6 @@
 -- How the code counts names: a number past the limit is kept as one more than may be.
 use Rattle.std.specs.Prelude.{◌≡◌, ℕ, ◌+◌, List, [], Option, min}
 use Rattle.f77_ast.specs.declared.program.Listed.{Listed}
-use Rattle.f77_ast.specs.declared.program.Unit.{Unit as ProgramUnit}
 use Rattle.f77_ast.specs.declared.refusal.Refusal.{Refusal}
 use Rattle.f77_cards.specs.Cards.{first_of}
 use Rattle.f77_shape.specs.Limits.{name_count, names_of, names_pass}

@@ -1,5 +1,5 @@
 -- The labels that statements name (ANSI X3.9-1978, section 3.4).
-use Rattle.std.specs.Prelude.{ℕ, suc, Bool, false, not, ◌==◌, List, [], ◌∷◌, ◌++◌, take, Option, None, Some, if◌then◌else◌}
+use Rattle.std.specs.Prelude.{ℕ, suc, Bool, false, List, [], ◌∷◌, ◌++◌, take, Option, None, Some, if◌then◌else◌}
 use Rattle.std.specs.List.{list_any}
 use Rattle.std.specs.Option.{option_to_list, is_none}
 use Rattle.f77_ast.specs.declared.program.Listed.{Listed}

@@ -1,6 +1,6 @@
 -- The names that stand in a statement: of variables, arrays, constants, units, intrinsic functions and common blocks
 -- (ANSI X3.9-1978, section 2.2).
-use Rattle.std.specs.Prelude.{ℕ, List, [], ◌∷◌, ◌++◌, map, Option, None, Some}
+use Rattle.std.specs.Prelude.{ℕ, List, [], ◌∷◌, ◌++◌, Option, None, Some}
 use Rattle.std.specs.List.{flat_map}
 use Rattle.std.specs.Option.{option_to_list}
 use Rattle.f77_ast.specs.declared.expr.Expr.{Expr}

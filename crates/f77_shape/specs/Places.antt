@@ -1,5 +1,5 @@
 -- The tables of a unit: its labels, its DO ranges and its IF blocks.
-use Rattle.std.specs.Prelude.{◌≡◌, ℕ, List, reverse}
+use Rattle.std.specs.Prelude.{List}
 use Rattle.f77_ast.specs.declared.program.Listed.{Listed}
 use Rattle.f77_shape.specs.declared.places.Places.{Places}
 use Rattle.f77_shape.specs.Held.{AreHeld}

@@ -1,5 +1,5 @@
 -- DO ranges: their terminal statements, and how they nest (ANSI X3.9-1978, sections 11.10 and 11.10.1).
-use Rattle.std.specs.Prelude.{ℕ, suc, Bool, true, false, ◌&&◌, ◌||◌, not, nat_lt, List, Option, None, Some, slice_get}
+use Rattle.std.specs.Prelude.{ℕ, Bool, true, false, ◌&&◌, ◌||◌, not, nat_lt, List, Option, None, Some, slice_get}
 use Rattle.std.specs.List.{list_any}
 use Rattle.f77_ast.specs.declared.program.Listed.{Listed}
 use Rattle.f77_meaning.specs.Loops.{terminal_of}

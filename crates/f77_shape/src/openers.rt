@@ -1,4 +1,4 @@
-//! For each place of a unit, where the last of the stretches that hold it opens.
+//! For each place of a unit, where the last of the stretches that hold it opens. Stretches need not nest.
 ghost use Rattle.std.specs.Prelude.{◌≡◌, ◌==◌, ◌<◌, ◌≤◌, ℕ, max, length, vec_len, IfOk, slice_index, if◌then◌else◌};
 ghost use Rattle.f77_shape.specs.Openers.{AreOpeners, AreFarthest, AreFound, opener_before};
 
@@ -27,8 +27,9 @@ fn farthest_of(alloc: Global, count: usize, stretches: &[Stretch]) -> Result<Vec
     Ok(farthest)
 }
 
-/// One more than the last place before this one at which a stretch opens that runs to it; 0 without one. A stretch that
-/// opens before a place and doesn't run to it, and all those that the openers of that place leave out, are passed over.
+/// One more than the last place before this one at which a stretch opens that runs to it; 0 without one. The search goes
+/// from an opener to the next one out. What it passes over ends before this place, and no later search comes to it again: so
+/// the searches of all places together take time in proportion to the number of places.
 fn opener_of(farthest: &[usize], openers: &[usize], place: usize) -> usize
     requires within { place < length farthest.now }
     requires known { place ≡ length openers.now }

@@ -1,4 +1,4 @@
-use Rattle.std.proofs.Common.{◌≡◌, ◌+◌, ℕ, List, [], take, drop, min, sym, ap, ◌∙◌, subst, arith}
+use Rattle.std.proofs.Common.{◌≡◌, ◌+◌, ℕ, List, [], take, min, sym, ap, ◌∙◌, subst}
 use Rattle.f77_cards.specs.Cards.{first_of}
 use Rattle.f77_shape.specs.Limits.{name_count, names_of, names_pass}
 use Rattle.f77_shape.specs.Names.{names_in}

@@ -1,4 +1,3 @@
-use Rattle.std.proofs.Common.{sym}
 use Rattle.f77_shape.proofs.OpenerLemmas.{found_tell}
 use Rattle.f77_shape.proofs.openers.openers_of.Goals as goal
 

@@ -1,6 +1,5 @@
-use Rattle.std.proofs.Common.{◌≡◌, ◌++◌, List, ◌∙◌}
+use Rattle.std.proofs.Common.{◌++◌, List, ◌∙◌}
 use Rattle.f77_ast.specs.declared.refusal.Refusal.{Refusal}
-use Rattle.f77_cards.specs.Cards.{first_of}
 use Rattle.f77_shape.specs.Blocks.{breaks_if, is_unended}
 use Rattle.f77_shape.specs.Breaks.{broken_by}
 use Rattle.f77_shape.specs.Jumps.{jumps_in}

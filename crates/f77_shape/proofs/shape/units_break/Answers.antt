@@ -1,4 +1,4 @@
-use Rattle.std.proofs.Common.{◌≡◌, ◌++◌, List, Option, drop, sym, ap, subst, ◌∙◌}
+use Rattle.std.proofs.Common.{◌++◌, List, Option, sym, ap, ◌∙◌}
 use Rattle.std.proofs.lemmas.List.{drop_all}
 use Rattle.std.specs.List.{flat_map}
 use Rattle.f77_ast.specs.declared.program.Listed.{Listed}

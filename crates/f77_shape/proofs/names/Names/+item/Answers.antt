@@ -3,7 +3,7 @@ use Rattle.std.specs.List.{flat_map}
 use Rattle.f77_ast.specs.declared.stmt.Item.{Item}
 use Rattle.f77_shape.specs.NameSets.{Adds}
 use Rattle.f77_shape.specs.Names.{item_names, control_names}
-use Rattle.f77_shape.proofs.AddLemmas.{adds_then, adds_all, adds_more}
+use Rattle.f77_shape.proofs.AddLemmas.{adds_then, adds_all}
 use Rattle.f77_shape.proofs.NameLemmas.{names_implied}
 use Rattle.f77_shape.proofs.names.Names.+item.Goals as goal
 

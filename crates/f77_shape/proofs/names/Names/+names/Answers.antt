@@ -2,7 +2,7 @@ use Rattle.std.proofs.Common.{List, ℕ, [], ◌∷◌, ◌++◌, sym, subst, �
 use Rattle.std.proofs.Common.{Option}
 use Rattle.std.specs.List.{flat_map}
 use Rattle.f77_ast.specs.declared.expr.Expr.{Expr}
-use Rattle.f77_ast.specs.declared.expr.Ref.{Ref, out-Ref}
+use Rattle.f77_ast.specs.declared.expr.Ref.{out-Ref}
 use Rattle.f77_shape.specs.NameSets.{Adds}
 use Rattle.f77_shape.specs.Names.{expr_names, args_names, option_part_names}
 use Rattle.f77_shape.proofs.AddLemmas.{adds_then, adds_more, adds_all}

@@ -1,4 +1,4 @@
-use Rattle.std.proofs.Common.{List, ℕ, sym, subst}
+use Rattle.std.proofs.Common.{List, ℕ, subst}
 use Rattle.std.proofs.lemmas.List.{take_all}
 use Rattle.f77_shape.specs.NameSets.{Adds}
 use Rattle.f77_shape.proofs.AddLemmas.{adds_one}
