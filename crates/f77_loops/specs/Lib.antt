@@ -1,4 +1,3 @@
 pub mod Following
 pub mod Ranges
-pub mod Statements
 pub mod Turn

@@ -1,9 +1,8 @@
 //! The DO-loops of a file.
 ghost use Rattle.std.specs.Prelude.{◌≡◌, ◌+◌, ◌^◌, ◌<◌, ◌∷◌, [], ◌++◌, length, List, IfOk, OnOk};
 ghost use Rattle.f77_ast.specs.Loop.{IsNumbered};
-ghost use Rattle.f77_meaning.specs.Loops.{loops_in, loops_of};
+ghost use Rattle.f77_meaning.specs.Loops.{loops_in, loops_of, statements_of};
 ghost use Rattle.f77_loops.specs.Ranges.{loop_with};
-ghost use Rattle.f77_loops.specs.Statements.{statements_in};
 ghost use Rattle.f77_loops.specs.Turn.{AreRangesOf, IsDone};
 ghost use Rattle.f77_ast.specs.declared.program.Listed.{Listed};
 
@@ -24,7 +23,7 @@ use std::alloc::Global;
 /// `NoMemory` where no memory was to be had, and never else. The cost grows with the number of statements.
 pub fn loops(alloc: Global, units: &Units) -> Result<Loops, NoMemory>
     requires few_units { length units.now < 2 ^ 32 }
-    requires few_statements { statements_in units.now + 1 < 2 ^ 32 }
+    requires few_statements { statements_of units.now + 1 < 2 ^ 32 }
     ensures all { IfOk result (λ loops. loops ≡ loops_of units.now) }
     ensures numbered { IfOk result (λ loops. IsNumbered loops) }
 {

@@ -1,6 +1,6 @@
 //! What no clause says: files with their loops worked out by hand, and the call with ample memory.
 ghost use Rattle.std.specs.Prelude.{◌≡◌, ◌+◌, ◌^◌, ◌<◌, IsTrue};
-ghost use Rattle.f77_loops.specs.Statements.{statements_in};
+ghost use Rattle.f77_meaning.specs.Loops.{statements_of};
 
 use crate::loops::loops;
 use f77_ast::code::Code;
@@ -91,7 +91,7 @@ fn a_file(alloc: Global, words: &[u8]) -> Result<Units, Fail> {
 
 /// Whether the statements of a file can be counted.
 fn has_few_statements(units: &Units) -> bool
-    ensures { IsTrue result → statements_in units.now + 1 < 2 ^ 32 }
+    ensures { IsTrue result → statements_of units.now + 1 < 2 ^ 32 }
 {
     let all = units.as_slice();
     let mut count: usize = 0;
