@@ -1,7 +1,6 @@
 //! What no clause says: which files are accepted, with the places of their names found by hand, and which are refused,
 //! with the line.
 ghost use Rattle.std.specs.Prelude.{◌≡◌, ◌+◌, ◌<◌, ◌^◌, length, IfOk};
-ghost use Rattle.f77_loops.specs.Statements.{statements_in};
 ghost use Rattle.f77_meaning.specs.Loops.{statements_of};
 
 use crate::subset::subset;
@@ -388,7 +387,6 @@ fn listing(alloc: Global, lines: &[Line]) -> Result<Listing, Fail> {
 fn units_of(alloc: Global, listing: Listing) -> Result<Units, Fail>
     ensures units { IfOk result (λ units. length units < 2 ^ 32) }
     ensures statements { IfOk result (λ units. statements_of units + 1 < 2 ^ 32) }
-    ensures counted { IfOk result (λ units. statements_in units + 1 < 2 ^ 32) }
 {
     if listing.len() > 1000 {
         return Err(Fail::from("too many statements"));
