@@ -69,7 +69,7 @@ is_executable _ = true
 abbrev pub first_executable : List Listed → ℕ
 first_executable listing = prefix_len (λ listed. not (is_executable listed.stmt)) listing
 
--- the same of the first of some units, which is the main unit
+-- the same of the first of some units, which is the main unit of each program that is accepted so far
 abbrev pub entry_of : List ProgramUnit → ℕ
 entry_of [] = 0
 entry_of (main ∷ units) = first_executable main.listing

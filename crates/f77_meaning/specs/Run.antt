@@ -47,6 +47,6 @@ run_from program p store zero = stopped store 0 Spent
 run_from program p store (suc left) =
     after (event program p) (onward program p) p store (line_of (listed_at program p)) (λ next store. run_from program next store left)
 
--- the sequential run on an input, for so many steps at most
+-- the sequential run on an input, which nothing reads so far, for so many steps at most
 abbrev pub sequential_run : Program → (input : List ℕ) → (steps : ℕ) → Run
 sequential_run program input steps = run_from program (first_process program) program.layout.first steps

@@ -21,7 +21,7 @@ use Rattle.f77_ast.specs.declared.specification.Declarator.{Declarator}
 use Rattle.f77_ast.specs.declared.specification.EquivalenceGroup.{EquivalenceGroup}
 use Rattle.f77_ast.specs.declared.specification.ImplicitRule.{ImplicitRule}
 use Rattle.f77_ast.specs.declared.specification.NamedConstant.{NamedConstant}
-use Rattle.f77_ast.specs.declared.specification.Length.TheVariants as length
+use Rattle.f77_ast.specs.declared.specification.Length.TheVariants as length_of
 use Rattle.f77_ast.specs.declared.specification.Length.{Length}
 use Rattle.f77_ast.specs.declared.specification.SaveEntry.TheVariants as entry
 use Rattle.f77_ast.specs.declared.specification.SaveEntry.{SaveEntry}
@@ -106,9 +106,9 @@ item_names = fold-Item (List (List ℕ)) item_step
 -- the names in a length
 abbrev pub length_names : Option Length → List (List ℕ)
 length_names None = []
-length_names (Some (length.Digits digits)) = []
-length_names (Some (length.Paren expr)) = expr_names expr
-length_names (Some length.Asterisk) = []
+length_names (Some (length_of.Digits digits)) = []
+length_names (Some (length_of.Paren expr)) = expr_names expr
+length_names (Some length_of.Asterisk) = []
 
 -- the names in a type
 abbrev pub type_names : TypeSpec → List (List ℕ)

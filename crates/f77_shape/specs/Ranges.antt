@@ -32,7 +32,8 @@ is_one_of false other = other
 abbrev pub leaves_a_block : (unit : List Listed) → Stretch → Bool
 leaves_a_block unit range = list_any (λ block. is_one_of (holds block range.opens) (holds block range.last)) (blocks_of unit)
 
--- the terminal statement stands later in the unit and may be one
+-- a DO statement breaks the rule where its terminal statement doesn't stand later in the unit or may be none, where its range
+-- crosses another, or where it stands in other IF blocks than its terminal statement
 abbrev pub breaks_to : (unit : List Listed) → (place : ℕ) → Option ℕ → Bool
 breaks_to unit place None = true
 breaks_to unit place (Some target) =

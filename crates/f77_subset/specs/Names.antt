@@ -89,14 +89,15 @@ names_in_step (Some value) = names_in value
 abbrev pub names_in_control : LoopControl → List Mention
 names_in_control control = record { name = control.variable; standing = Variable } ∷ (names_in control.first ++ (names_in control.last ++ names_in_step control.step))
 
--- the names that stand in a statement that declares nothing, in the order of its text
+-- the names of variables and arrays that stand in a statement that declares nothing, in the order of its text: of those that
+-- are built an assignment, a DO statement or a PRINT has some
 abbrev pub mentioned_in : Stmt → List Mention
 mentioned_in (Assign target value) = names_in_reference target ++ names_in value
 mentioned_in (Do terminal control) = names_in_control control
 mentioned_in (Print items) = flat_map names_in_item items
 mentioned_in _ = []
 
--- the names, with their bounds, that a statement declares
+-- the names, with their bounds, that INTEGER declares
 abbrev pub declared_in : Stmt → List Declarator
 declared_in (Declare typ entities) = map (λ entity. entity.declarator) entities
 declared_in _ = []

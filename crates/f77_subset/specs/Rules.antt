@@ -1,5 +1,6 @@
--- The rules on names, storage and DO variables, for one statement behind those before it. They are those that the standard
--- has for what is built so far; when names and storage are whole, each gets a refusal of its own.
+-- The rules on names, storage and DO variables, for one statement behind those before it: those that the standard has for
+-- what is built so far, and a limit on storage, which is this project's own. When names and storage are whole, each gets a
+-- refusal of its own.
 use Rattle.std.specs.Prelude.{ℕ, Bool, true, false, not, ◌&&◌, ◌||◌, nat_le, nat_eq, List, [], ◌∷◌, find, Option, None, Some}
 use Rattle.std.specs.Cmp.Lexicographic.{pointwise}
 use Rattle.std.specs.List.{list_all, list_any, flat_map}
@@ -57,11 +58,13 @@ abbrev pub declares_once : List Declarator → Bool
 declares_once [] = true
 declares_once (d ∷ ds) = not (list_any (λ later. is_of later.name d) ds) && declares_once ds
 
--- whether a name may be declared behind some statements: it stands nowhere in them, and an array has one element at least
+-- whether a name may be declared behind some statements: it stands nowhere in them and isn't the name of PROGRAM, and an
+-- array has one element at least
 abbrev pub may_declare : (before : List Stmt) → Declarator → Bool
 may_declare before d = not (list_any (is_of d.name) (names_of before)) && is_no_program before d.name && nat_le 1 (units_by d.bounds)
 
--- whether a name may stand in a statement behind some others: it is INTEGER, and stands as it is declared
+-- whether a name may stand in a statement behind some others: it is INTEGER, isn't the name of PROGRAM, and stands as it is
+-- declared
 abbrev pub may_mention : (before : List Stmt) → Mention → Bool
 may_mention before m =
     is_integer (declarations before) m.name && is_no_program before m.name && may_stand (is_array (declarations before) m.name) m.standing
