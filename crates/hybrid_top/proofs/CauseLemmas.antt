@@ -15,7 +15,7 @@ use Rattle.f77_meaning.specs.Run.{Run, End, Ended, Faulted, Spent, sequential_ru
 use Rattle.hybrid_top.specs.Answer.{Answer, stops, status_of, ran, IsAnswer, usage, program_fault, input_fault, schedule_fault, no_memory, program_limit, refused, input_limit, schedule_limit, run, line_piece, status_pieces, pieces_of, Gives, whole, cut, Answered}
 use Rattle.hybrid_top.specs.Causes.{NoneFailed, IsOrYields, Tells, TellsMore, FileLimitComes, IsFile, FileLimitOnly, RefusedComes, RefusedOnly, lines_text, is_of_run, IsRun, RunOnly, RunComes, RunCompletes, is_before_run}
 use Rattle.hybrid_top.specs.Command.{RunRequest}
-use Rattle.first_form.specs.FirstForm.{front_of}
+use Rattle.f77_front.specs.Front.{front_of}
 use Rattle.hybrid_top.specs.Reading.{IsWhole, IsTooLong, file_limit}
 use Rattle.hybrid_top.specs.StatusText.{status_text}
 use Rattle.hybrid_top.specs.declared.status.Status.{Status}

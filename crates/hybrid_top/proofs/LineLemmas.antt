@@ -17,42 +17,10 @@ use Rattle.f77_meaning.specs.Demand.{Demand, gives, wants, fails, and_then, dema
 use Rattle.f77_meaning.specs.Do.{Begun, begun_of}
 use Rattle.f77_meaning.specs.Event.{Event, reads, writes, moves, prints, ends, faults}
 use Rattle.f77_meaning.specs.Next.{Next, next, next_of, stepped_of, line_after}
-use Rattle.f77_meaning.specs.Print.{line_limit, with_item, item_of, items_of, line_of_items}
+use Rattle.f77_meaning.proofs.Short.{IsShort, line_short}
+use Rattle.f77_meaning.specs.Print.{line_limit, line_of_items}
 use Rattle.f77_meaning.specs.Process.{ActiveLoop, Process, listed_at}
 use Rattle.f77_meaning.specs.Step.{do_event, event, event_at, increment_event, loop_at, statement_event, print_event, write_event}
-
--- a line that was made is no longer than a line may be
-abbrev IsShort : Demand (List ℕ) → Type 0
-IsShort (gives line rest) = length line ≤ line_limit
-IsShort (wants address) = Unit {0}
-IsShort (fails fault) = Unit {0}
-
-with_item_short : (line text : List ℕ) (rest : List ℤ) → IsShort (with_item line text rest)
-with_item_short line text rest = by (nat_le (length line + (1 + length text)) line_limit) refl where
-  by : (fits : Bool) → nat_le (length line + (1 + length text)) line_limit ≡ fits → IsShort (if fits then gives (line ++ (32 ∷ text)) rest else fails LineLimit)
-  by true e = let h : length line + (1 + length text) ≤ line_limit = leb-true (length line + (1 + length text)) line_limit e in omega (arith, length-append line (32 ∷ text))
-  by false e = tt
-
-item_short : (layout : Layout) (unit : ℕ) (item : Item) (line : List ℕ) (answers : List ℤ) → length line ≤ line_limit → IsShort (item_of layout unit item line answers)
-item_short layout unit (Plain expr) line answers h = by (demand_of layout unit expr answers) where
-  by : (d : Demand ℤ) → IsShort (and_then d (λ value rest. with_item line (decimal_of value) rest))
-  by (gives value rest) = with_item_short line (decimal_of value) rest
-  by (wants address) = tt
-  by (fails fault) = tt
-item_short layout unit _ line answers h = h
-
-then_short : (layout : Layout) (unit : ℕ) (items : List Item) (d : Demand (List ℕ)) → ((more : List ℕ) (rest : List ℤ) → length more ≤ line_limit → IsShort (items_of layout unit items more rest)) → IsShort d → IsShort (and_then d (λ more rest. items_of layout unit items more rest))
-then_short layout unit items (gives more rest) go s = go more rest s
-then_short layout unit items (wants address) go s = tt
-then_short layout unit items (fails fault) go s = tt
-
-items_short : (layout : Layout) (unit : ℕ) (items : List Item) (line : List ℕ) (answers : List ℤ) → length line ≤ line_limit → IsShort (items_of layout unit items line answers)
-items_short layout unit [] line answers h = h
-items_short layout unit (item ∷ items) line answers h = then_short layout unit items (item_of layout unit item line answers) (λ more rest s. items_short layout unit items more rest s) (item_short layout unit item line answers h)
-
-line_short : (layout : Layout) (unit : ℕ) (items : List Item) (answers : List ℤ) → IsShort (line_of_items layout unit items answers)
-line_short layout unit [] answers = omega arith
-line_short layout unit (item ∷ items) answers = items_short layout unit (item ∷ items) [] answers (omega arith)
 
 -- a printed line is no longer than a line may be
 abbrev PrintsShort : Event → Type 0

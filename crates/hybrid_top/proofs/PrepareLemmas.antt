@@ -7,7 +7,7 @@ use Rattle.hyb_outside.proofs.Takes.{rose_along}
 use Rattle.f77_ast.specs.declared.program.Program.{Program}
 use Rattle.hybrid_top.specs.Answer.{IsAnswer, stops, program_fault, input_fault, schedule_fault, no_memory, program_limit, refused, input_limit, schedule_limit}
 use Rattle.hybrid_top.specs.Command.{RunRequest}
-use Rattle.first_form.specs.FirstForm.{front_of}
+use Rattle.f77_front.specs.Front.{front_of}
 use Rattle.hybrid_top.specs.Prepared.{ReadStops, fault, too_long, no_memory as out_of_memory, FrontStops, refused as not_accepted, no_program_memory}
 use Rattle.hybrid_top.specs.Reading.{Keeps, IsWhole}
 use Rattle.hybrid_top.specs.declared.status.Status.{Status}

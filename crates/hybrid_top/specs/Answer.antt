@@ -10,7 +10,7 @@ use Rattle.f77_ast.specs.declared.program.Program.{Program}
 use Rattle.f77_ast.specs.declared.refusal.Refusal.{Refusal}
 use Rattle.f77_meaning.specs.Run.{Run, End, Ended, Faulted, Spent, sequential_run}
 use Rattle.hybrid_top.specs.Command.{RunRequest}
-use Rattle.first_form.specs.FirstForm.{front_of}
+use Rattle.f77_front.specs.Front.{front_of}
 use Rattle.hybrid_top.specs.Reading.{IsWhole, IsTooLong}
 use Rattle.hybrid_top.specs.StatusText.{status_text}
 use Rattle.hybrid_top.specs.declared.status.Status.{Status}

@@ -11,7 +11,7 @@ use Rattle.f77_ast.specs.declared.refusal.Refusal.{Refusal}
 use Rattle.f77_meaning.specs.Run.{Ended, sequential_run}
 use Rattle.hybrid_top.specs.Answer.{status_of, line_piece}
 use Rattle.hybrid_top.specs.Command.{RunRequest}
-use Rattle.first_form.specs.FirstForm.{front_of}
+use Rattle.f77_front.specs.Front.{front_of}
 use Rattle.hybrid_top.specs.Reading.{IsWhole, IsTooLong, file_limit}
 use Rattle.hybrid_top.specs.declared.status.Status.{Status}
 use Rattle.hybrid_top.specs.declared.status.Status.TheVariants as status

@@ -5,7 +5,7 @@ use Rattle.hyb_outside.specs.FilesSeen.{FilesSeen}
 use Rattle.f77_ast.specs.declared.program.Program.{Program}
 use Rattle.f77_ast.specs.declared.refusal.Refusal.{Refusal}
 use Rattle.hybrid_top.specs.Command.{RunRequest}
-use Rattle.first_form.specs.FirstForm.{front_of}
+use Rattle.f77_front.specs.Front.{front_of}
 use Rattle.hybrid_top.specs.Machine.{IsAtStart}
 use Rattle.hybrid_top.specs.Reading.{IsWhole, IsTooLong}
 use Rattle.hybrid_top.specs.declared.machine.Machine.{Machine}

@@ -158,8 +158,9 @@ const fn refused(line: u32, code: u8) -> Status {
 
 #[test]
 fn refusals(rt: HostRuntime) -> Result<(), Fail> {
-    let cases: [(&[u8], u32, u8, &[u8]); 17] = [
+    let cases: [(&[u8], u32, u8, &[u8]); 12] = [
         (b"", 1, 54, b"REFUSED 1 54\n"),
+        (b"\n", 1, 54, b"REFUSED 1 54\n"),
         (b"      PRINT *, 7\n", 1, 54, b"REFUSED 1 54\n"),
         (
             b"      PRINT *, 7\n      PRINT *, 8",
@@ -167,30 +168,20 @@ fn refusals(rt: HostRuntime) -> Result<(), Fail> {
             54,
             b"REFUSED 2 54\n",
         ),
-        (b"\n", 1, 21, b"REFUSED 1 21\n"),
-        (b"END\n", 1, 21, b"REFUSED 1 21\n"),
-        (b"10    END\n", 1, 21, b"REFUSED 1 21\n"),
-        (b"     1END\n", 1, 21, b"REFUSED 1 21\n"),
-        (b"      end\n", 1, 21, b"REFUSED 1 21\n"),
-        (b"      END\r\n", 1, 21, b"REFUSED 1 21\n"),
-        (b"      ENDE\n", 1, 21, b"REFUSED 1 21\n"),
-        (b"      PRINT *\n      END\n", 1, 21, b"REFUSED 1 21\n"),
-        (
-            b"      PRINT *, 1\n      GO TO 10\n      END\n",
-            2,
-            21,
-            b"REFUSED 2 21\n",
-        ),
+        // a tab in columns 1 to 72 of a line that is no comment, also behind what else is refused
+        (b"\tEND\n", 1, 1, b"REFUSED 1 1\n"),
+        (b"      X\n      END\n      END\t\n", 3, 1, b"REFUSED 3 1\n"),
+        (b"      I = 1;\n      END\n", 1, 2, b"REFUSED 1 2\n"),
+        (b"END\n", 1, 3, b"REFUSED 1 3\n"),
+        (b"      PRINT *, 'A\n      END\n", 1, 5, b"REFUSED 1 5\n"),
+        (b"     1END\n", 1, 6, b"REFUSED 1 6\n"),
+        (b"      ENDE\n", 1, 20, b"REFUSED 1 20\n"),
         (
             b"      PRINT *, 9223372036854775808\n      END\n",
             1,
             21,
             b"REFUSED 1 21\n",
         ),
-        (b"      END\n      END\n", 2, 21, b"REFUSED 2 21\n"),
-        (b"      END\n\n", 2, 21, b"REFUSED 2 21\n"),
-        (b"\tEND\n", 1, 1, b"REFUSED 1 1\n"),
-        (b"      X\n      END\n      END\t\n", 3, 1, b"REFUSED 3 1\n"),
     ];
     for (at, (program, line, code, notes)) in cases.iter().enumerate() {
         let wanted = no_lines(refused(*line, *code), notes);
@@ -204,9 +195,34 @@ fn refusals(rt: HostRuntime) -> Result<(), Fail> {
 
 #[test]
 fn runs(rt: HostRuntime) -> Result<(), Fail> {
-    let cases: [(&[u8], &[u8], Status, &[u8], &[u8]); 17] = [
+    let cases: [(&[u8], &[u8], Status, &[u8], &[u8]); 22] = [
         (b"      END\n", b"1", Status::Done, b"", b""),
         (b"       E ND  ", b"2", Status::Done, b"", b""),
+        // lower case, CR before LF, a label on END, comments, continuation lines, columns past 72
+        (b"      end\r\n\n", b"1", Status::Done, b"", b""),
+        (b"10    END\n", b"1", Status::Done, b"", b""),
+        (
+            b"C     7\n      print *,\n* 8\n\n     1 7\n      End\n",
+            b"2",
+            Status::Done,
+            b" 7\n",
+            b"",
+        ),
+        (
+            b"      PRINT *, 7                                                        8\n      END\n",
+            b"2",
+            Status::Done,
+            b" 7\n",
+            b"",
+        ),
+        // no item: one blank
+        (
+            b"      PRINT *\n      END\n",
+            b"2",
+            Status::Done,
+            b" \n",
+            b"",
+        ),
         // one step a line, and one for END: exact, one more and one short
         (
             b"      PRINT *, 7\n      END\n",
@@ -497,8 +513,8 @@ fn missing_and_long_files(rt: HostRuntime) -> Result<(), Fail> {
             b"      X\n",
             missing,
             missing,
-            refused(1, 21),
-            b"REFUSED 1 21\n"
+            refused(1, 20),
+            b"REFUSED 1 20\n"
         )?
     );
 
@@ -509,8 +525,8 @@ fn missing_and_long_files(rt: HostRuntime) -> Result<(), Fail> {
             &limit,
             missing,
             missing,
-            refused(1, 21),
-            b"REFUSED 1 21\n"
+            refused(1, 54),
+            b"REFUSED 1 54\n"
         )?
     );
     assert!(rt;

@@ -1,0 +1,30 @@
+-- Which files are programs.
+use Rattle.std.specs.List.{AllZip}
+use Rattle.std.specs.Prelude.{◌≡◌, ℕ, List, None, Ok}
+use Rattle.f77_ast.specs.declared.program.Card.{Card}
+use Rattle.f77_ast.specs.declared.program.Listed.{Listed}
+use Rattle.f77_ast.specs.declared.program.Program.{Program}
+use Rattle.f77_cards.specs.Cards.{cards_of}
+use Rattle.f77_meaning.specs.Loops.{loops_of}
+use Rattle.f77_operands.specs.Limit.{operand_refusal}
+use Rattle.f77_shape.specs.Shape.{shape_of}
+use Rattle.f77_stmts.specs.Spelling.{SpellsStmt}
+use Rattle.f77_subset.specs.Subset.{subset_of}
+
+-- a card's text spells the statement that is listed with it
+pub record IsListed (card : Card) (listed : Listed) : Type 0 where
+  pub card_is : listed.card ≡ card
+  pub spelled : SpellsStmt listed.stmt card.text
+
+-- the bytes of a file are a program: they are cut into cards, each card's text spells a statement, the statements have the
+-- shape of the program's units, these keep the limit on operands, all of them is built so far, and the layout and the loops
+-- are theirs
+pub record IsAccepted (bytes : List ℕ) (program : Program) : Type 0 where
+  pub cards : List Card
+  pub statements : List Listed
+  pub cut : cards_of bytes ≡ Ok cards
+  pub listed : AllZip IsListed cards statements
+  pub shape : shape_of statements ≡ Ok program.units
+  pub operands : operand_refusal program.units ≡ None
+  pub loops : program.loops ≡ loops_of program.units
+  pub layout : subset_of program.loops program.units ≡ Ok program.layout
