@@ -4,8 +4,8 @@
     python3 bench/loops.py
 
 It takes crates/hybrid/out/hybrid, which `rt ci` and `rt run` leave, and prints nothing but a line where that is
-missing. A triple loop is timed beside the same loop in python3; sources at the limits are timed beside sources of half
-their size, so that a time that grows with the square shows as a ratio of 4.
+missing. A triple loop, a table of powers and a loop of a million trips are timed beside the same loops in python3; sources
+at the limits are timed beside sources of half their size, so that a time that grows with the square shows as a ratio of 4.
 """
 
 import os
@@ -63,69 +63,130 @@ TRIPLE = [
     "PRINT *, ISUM",
     "END",
 ]
-# the reads of I, J, K and ISUM, the write of ISUM, CONTINUE, and the write of K
-STEPS_OF_THE_BODY = 7
+POWERS = [
+    f"DO 10 I = 1, {3 * SIDE}",
+    f"DO 10 J = 1, {3 * SIDE}",
+    "10|ISUM = ISUM + I**J",
+    "PRINT *, ISUM",
+    "END",
+]
+MILLION = ["DO 10 I = 1, 1000000", "10|ISUM = ISUM + I", "PRINT *, ISUM", "END"]
 
 
-def in_python():
-    """The same loop in python3."""
-    start = time.perf_counter()
+def wrapped(number):
+    """What is left of a number in 64 bits."""
+    return (number + 2**63) % 2**64 - 2**63
+
+
+def triple_in_python():
     total = 0
     for i in range(1, SIDE + 1):
         for j in range(1, SIDE + 1):
             for k in range(1, SIDE + 1):
                 total = total + i * j - k
-    return time.perf_counter() - start, total
+    return total
 
 
-def triple_loop(folder):
-    seconds, (code, out, notes) = least(3, lambda: run(folder, TRIPLE))
-    yardstick, (total,) = least(3, in_python)
-    if (code, out, notes) != (0, f" {total}\n", ""):
-        sys.exit(f"the triple loop gave {code} {out!r} {notes!r}, and python3 {total}")
-    steps = STEPS_OF_THE_BODY * SIDE**3
-    print(f"triple loop: {steps / seconds / 1e6:.1f} million steps a second; {seconds / yardstick:.1f} times python3")
+def powers_in_python():
+    total = 0
+    for i in range(1, 3 * SIDE + 1):
+        for j in range(1, 3 * SIDE + 1):
+            total = (total + pow(i, j, 2**64)) % 2**64
+    return wrapped(total)
+
+
+def million_in_python():
+    total = 0
+    for i in range(1, 1_000_001):
+        total = total + i
+    return total
+
+
+def timed(work):
+    """The seconds that some work takes, and what it gives."""
+    start = time.perf_counter()
+    given = work()
+    return time.perf_counter() - start, given
+
+
+def loops(folder):
+    # a row: the steps of the innermost body are the reads and the write of its statements, and the write of its variable
+    rows = [
+        ("triple loop", TRIPLE, triple_in_python, 7 * SIDE**3),
+        ("table of powers", POWERS, powers_in_python, 5 * (3 * SIDE) ** 2),
+        ("a million trips", MILLION, million_in_python, 4 * 1_000_000),
+    ]
+    for name, lines, in_python, steps in rows:
+        seconds, (code, out, notes) = least(3, lambda: run(folder, lines))
+        yardstick, (total,) = least(3, lambda: timed(in_python))
+        if (code, out, notes) != (0, f" {total}\n", ""):
+            sys.exit(f"{name} gave {code} {out!r} {notes!r}, and python3 {total}")
+        print(f"{name}: {steps / seconds / 1e6:.1f} million steps a second; {seconds / yardstick:.1f} times python3")
 
 
 def many_names(count):
     return [f"I{n:05d} = {n}" for n in range(count - 1)] + ["END"]
 
 
+def many_labels(count):
+    return [f"{n}|I = {n}" for n in range(1, count)] + ["END"]
+
+
 def many_loops(count):
-    loops = (count - 1) // 2
-    return [line for n in range(1, loops + 1) for line in (f"DO 10 I = 1, {n % 3}", "10|CONTINUE")] + ["END"]
+    rows = range(1, (count - 1) // 2 + 1)
+    return [line for n in rows for line in (f"DO {n} I = 1, {n % 3}", f"{n}|CONTINUE")] + ["END"]
 
 
 def nested_loops(count):
-    loops = (count - 1) // 2
-    begins = [f"DO {n} I{n:05d} = 1, 1" for n in range(1, loops + 1)]
-    ends = [f"{n}|CONTINUE" for n in range(loops, 0, -1)]
+    depth = (count - 1) // 2
+    begins = [f"DO {n} I{n:05d} = 1, 1" for n in range(1, depth + 1)]
+    ends = [f"{n}|CONTINUE" for n in range(depth, 0, -1)]
     return begins + ends + ["END"]
 
 
-def open_loops(count):
-    return [f"DO {n} I{n:05d} = 1, 1" for n in range(1, count)] + ["END"]
+def shared_loops(count):
+    return [f"DO 1 I{n:05d} = 1, 1" for n in range(1, count - 1)] + ["1|CONTINUE", "END"]
+
+
+def crossing_loops(count):
+    half = (count - 1) // 2
+    begins = [f"DO {n} I{n:05d} = 1, 1" for n in range(1, half + 1)]
+    ends = [f"{n}|CONTINUE" for n in range(1, half + 1)]
+    return begins + ends + ["END"]
+
+
+def many_jumps(count):
+    return [f"{n}|GOTO {count - n}" for n in range(1, count)] + ["END"]
+
+
+def many_blocks(count):
+    rows = range(1, (count - 1) // 4 + 1)
+    return [line for n in rows for line in ("IF (I .EQ. 1) THEN", f"GOTO {n}", "ENDIF", f"{n}|CONTINUE")] + ["END"]
 
 
 def at_the_limits(folder):
     rows = [
         ("names, accepted and run", many_names, 0, ""),
+        ("labels, accepted and run", many_labels, 0, ""),
         ("loops in turn, accepted and run", many_loops, 0, ""),
         ("loops in each other, accepted and run", nested_loops, 0, ""),
-        ("loops that are left open, refused at END", open_loops, 2, "REFUSED {} 21\n"),
+        ("loops with one terminal statement, accepted and run", shared_loops, 0, ""),
+        ("loops that cross, refused", crossing_loops, 2, "REFUSED 1 52\n"),
+        ("jumps, refused as not built", many_jumps, 2, "REFUSED 1 21\n"),
+        ("IF blocks, refused as not built", many_blocks, 2, "REFUSED 1 21\n"),
     ]
     for name, make, code, notes in rows:
         times = []
         for count in (5_000, 10_000):
             lines = make(count)
             seconds, result = least(3, lambda: run(folder, lines))
-            if result != [code, "", notes.format(len(lines))]:
+            if result != [code, "", notes]:
                 sys.exit(f"{name}, {count} statements: {result}")
             times.append(seconds)
         print(f"{name}: 10,000 statements in {times[1]:.3f} s, {times[1] / times[0]:.1f} times 5,000")
     lines = [f"PRINT *, {n:050d}" for n in range(1_048_576 // 66)]
     seconds, result = least(3, lambda: run(folder, lines))
-    if result != [2, "", "REFUSED 10001 21\n"]:
+    if result != [2, "", "REFUSED 10001 56\n"]:
         sys.exit(f"a file of 1 MiB: {result}")
     print(f"1 MiB of PRINT lines, refused at line 10,001: {seconds:.3f} s")
 
@@ -135,7 +196,7 @@ def main():
         print("crates/hybrid/out/hybrid is missing: run `rt ci` first")
         return
     with tempfile.TemporaryDirectory() as folder:
-        triple_loop(folder)
+        loops(folder)
         at_the_limits(folder)
 
 
