@@ -31,13 +31,13 @@ product_of a b = wrapped (a *ℤ b)
 abbrev pub negation_of : ℤ → ℤ
 negation_of a = wrapped (neg_ℤ a)
 
--- `a / b`: the quotient without its fraction; there is none by 0
+-- `a / b`: the quotient without its fraction, wrapped; there is none by 0
 abbrev pub quotient_of : ℤ → ℤ → Option ℤ
 quotient_of a (pos zero) = None
 quotient_of a (pos (suc n)) = Some (wrapped (int_div a (pos (suc n))))
 quotient_of a (negsuc n) = Some (wrapped (int_div a (negsuc n)))
 
--- `a ** k`: the power, or, where k is negative, the quotient without its fraction of 1 by the power to -k; there is none of 0
+-- `a ** k`: the power, wrapped, or, where k is negative, the quotient without its fraction of 1 by the power to -k; there is none of 0
 unfoldable pub power_of : ℤ → ℤ → Option ℤ
 power_of a (pos k) = Some (wrapped (int_pow a k))
 power_of a (negsuc k) = quotient_of (pos 1) (int_pow a (suc k))

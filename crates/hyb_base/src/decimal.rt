@@ -41,7 +41,7 @@ impl Decimal {
         Decimal { text }
     }
 
-    /// Its bytes: 1 to 20.
+    /// Its bytes: 20 at most.
     pub fn as_slice(&self) -> &[u8]
         ensures text { result.now ≡ self.now }
         ensures within { length result.now ≤ 20 }

@@ -1,10 +1,11 @@
-//! Lists, wrapped 64-bit arithmetic and the storage that programs run over.
+//! Lists, wrapped 64-bit arithmetic, decimal texts, operators, bindings and the storage that programs run over.
 //!
 //! Every crate of the project stands on this one.
 #![tactic(auto)]
 
 pub mod bytes;
 pub mod cells;
+pub mod count;
 pub mod decimal;
 pub mod env;
 pub mod list;

@@ -1,4 +1,4 @@
-//! Arithmetic on INTEGER, which wraps at 64 bits.
+//! Arithmetic on INTEGER (ANSI X3.9-1978, section 6.1), which wraps at 64 bits.
 ghost use Rattle.std.specs.Prelude.{◌≡◌, ◌<◌, ◌↔◌, pos, ◌<ℤ◌, IsNone};
 ghost use Rattle.std.specs.Int.{int_pow};
 ghost use Rattle.hyb_base.specs.Wrap.{wrapped, WrapsEach, sum_of, difference_of, product_of, negation_of, quotient_of, power_of};
