@@ -1,5 +1,5 @@
 pub mod Takes
 pub mod Emits
-pub mod Parts
+pub mod Slices
 pub mod TableLemmas
 pub mod ReadLemmas

@@ -4,10 +4,10 @@ use Rattle.std.specs.Prelude.{IfSome}
 use Rattle.std.proofs.Math.Seq.{take-add}
 use Rattle.std.proofs.lemmas.Grind.{common_steps}
 use Rattle.hyb_base.specs.Count.{next_count}
-use Rattle.hyb_outside.specs.FilesSeen.{Gives, IsEnd, ends_after}
+use Rattle.hyb_outside.specs.FilesSeen.{FillsFrom, IsEnd, ends_after}
 
 -- the bytes before a place, and then those that a read from there gave
-pub gives_more : (content : Option (List ℕ)) (from n : ℕ) (buffer : List ℕ) → Gives content from n buffer → IfSome content (λ bytes. take (from + n) bytes ≡ take from bytes ++ take n buffer)
+pub gives_more : (content : Option (List ℕ)) (from n : ℕ) (buffer : List ℕ) → FillsFrom content from n buffer → IfSome content (λ bytes. take (from + n) bytes ≡ take from bytes ++ take n buffer)
 gives_more None from n buffer g = tt
 gives_more (Some bytes) from n buffer g = rw (take-add from n bytes, g.1) refl
 

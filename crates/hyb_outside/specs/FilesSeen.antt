@@ -11,9 +11,9 @@ pub record FilesSeen : Type 0 where
   pub may_read : List ℕ → Bool
 
 -- where the content is told, it has so many bytes from a place, and the buffer begins with them
-abbrev pub Gives : Option (List ℕ) → ℕ → ℕ → List ℕ → Type 0
-Gives None from n buffer = Unit {0}
-Gives (Some bytes) from n buffer = (n ≤ length (drop from bytes)) × (take n buffer ≡ take n (drop from bytes))
+abbrev pub FillsFrom : Option (List ℕ) → ℕ → ℕ → List ℕ → Type 0
+FillsFrom None from n buffer = Unit {0}
+FillsFrom (Some bytes) from n buffer = (n ≤ length (drop from bytes)) × (take n buffer ≡ take n (drop from bytes))
 
 -- where the content is told, it has no byte from a place
 abbrev pub IsEnd : Option (List ℕ) → ℕ → Type 0

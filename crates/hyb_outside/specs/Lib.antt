@@ -1,8 +1,8 @@
 pub use Rattle.hyb_base.specs.Count
-pub mod Seen
+pub mod SinkSeen
 pub mod FilesSeen
 pub mod Pieces
-pub mod Parts
+pub mod Slices
 pub mod Calls
 pub mod MemSink
 pub mod Table

@@ -2,7 +2,7 @@
 use Rattle.std.specs.Prelude.{ℕ, ◌+◌, ◌<◌, List, length, Some, ◌⊎◌}
 use Rattle.hyb_outside.specs.declared.mem_sink.MemSink.{MemSink}
 use Rattle.hyb_outside.specs.Calls.{IsListed}
-use Rattle.hyb_outside.specs.Seen.{Seen}
+use Rattle.hyb_outside.specs.SinkSeen.{SinkSeen}
 
 -- the bytes taken; for how many there is room in all; the numbers of the calls that are to fail, how many
 -- calls were made, and how many failed
@@ -18,7 +18,7 @@ abbrev pub mem_sink_held : MemSink → SinkHeld
 mem_sink_held s = record { taken = s.bytes.items; room = s.room; fails = s.calls.fails; calls = s.calls.calls; faults = s.faults }
 
 -- what is known of it: it tells its bytes
-abbrev pub mem_sink_seen : MemSink → Seen
+abbrev pub mem_sink_seen : MemSink → SinkSeen
 mem_sink_seen s = record { taken = Some s.bytes.items; faults = s.faults }
 
 -- the next call is listed, or the piece is longer than the room left

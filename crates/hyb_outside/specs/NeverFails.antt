@@ -3,7 +3,7 @@ use Rattle.std.specs.Prelude.{true, [], None, Some, unwrap_or}
 use Rattle.hyb_outside.specs.declared.never_fails_files.NeverFailsFiles.{NeverFailsFiles}
 use Rattle.hyb_outside.specs.declared.never_fails_sink.NeverFailsSink.{NeverFailsSink}
 use Rattle.hyb_outside.specs.FilesSeen.{FilesSeen}
-use Rattle.hyb_outside.specs.Seen.{Seen}
+use Rattle.hyb_outside.specs.SinkSeen.{SinkSeen}
 use Rattle.hyb_outside.specs.Table.{content_of}
 
 -- the files tell each content, a missing name's as empty, no call has failed, and every name may be asked for
@@ -16,5 +16,5 @@ never_fails_files_seen f = record {
 }
 
 -- the sink tells no bytes, and no call has failed
-abbrev pub never_fails_sink_seen : NeverFailsSink → Seen
+abbrev pub never_fails_sink_seen : NeverFailsSink → SinkSeen
 never_fails_sink_seen s = record { taken = None; faults = 0 }

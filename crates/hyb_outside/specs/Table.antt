@@ -22,6 +22,6 @@ abbrev pub filled : List ℕ → ℕ → ℕ → List ℕ → List ℕ
 filled content from n buffer = take n (drop from content) ++ drop n buffer
 
 -- the content is there, as many of its bytes are given as the buffer holds and it has, and the buffer keeps its rest
-abbrev pub FillsAll : Option (List ℕ) → ℕ → ℕ → List ℕ → List ℕ → Type 0
-FillsAll None from n old new = ⊥
-FillsAll (Some content) from n old new = (n ≡ bytes_given content from (length old)) × (new ≡ filled content from n old)
+abbrev pub FillsWhatFits : Option (List ℕ) → ℕ → ℕ → List ℕ → List ℕ → Type 0
+FillsWhatFits None from n old new = ⊥
+FillsWhatFits (Some content) from n old new = (n ≡ bytes_given content from (length old)) × (new ≡ filled content from n old)

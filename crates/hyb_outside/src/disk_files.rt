@@ -141,7 +141,7 @@ impl<R: rt::Files> DiskFiles<R> {
 impl<R: rt::Files> Files for DiskFiles<R> {
     ghost use Rattle.std.specs.Prelude.{◌≡◌, ◌<◌, ◌≤◌, ◌-◌, ◌^◌, length, IfOk, OnOk, OnErr, IsTrue};
     ghost use Rattle.hyb_base.specs.Count.{next_count, Rose};
-    ghost use Rattle.hyb_outside.specs.FilesSeen.{Gives, IsEnd, ends_after};
+    ghost use Rattle.hyb_outside.specs.FilesSeen.{FillsFrom, IsEnd, ends_after};
     ghost use Rattle.hyb_outside.specs.DiskFiles.{disk_files_seen};
 
     ghost seen = { disk_files_seen };
@@ -152,7 +152,7 @@ impl<R: rt::Files> Files for DiskFiles<R> {
         ensures content { (disk_files_seen self.new).content ≡ (disk_files_seen self.old).content }
         ensures may_read { (disk_files_seen self.new).may_read ≡ (disk_files_seen self.old).may_read }
         ensures within { IfOk result (λ n. n ≤ length into.old) }
-        ensures gives { IfOk result (λ n. Gives ((disk_files_seen self.old).content name.now) from n into.new) }
+        ensures gives { IfOk result (λ n. FillsFrom ((disk_files_seen self.old).content name.now) from n into.new) }
         ensures end { IfOk result (λ n. n ≡ 0 → 0 < length into.old → IsEnd ((disk_files_seen self.old).content name.now) from) }
         ensures ends { IfOk result (λ n. (disk_files_seen self.new).ends ≡ ends_after n (length into.old) (disk_files_seen self.old).ends) }
         ensures no_end { OnErr result ((disk_files_seen self.new).ends ≡ (disk_files_seen self.old).ends) }

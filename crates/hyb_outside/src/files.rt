@@ -1,7 +1,7 @@
 //! What gives the bytes of named files.
 ghost use Rattle.std.specs.Prelude.{◌≡◌, ◌<◌, ◌≤◌, ◌-◌, ◌^◌, length, IfOk, OnErr, IsTrue};
 ghost use Rattle.hyb_base.specs.Count.{next_count, Rose};
-ghost use Rattle.hyb_outside.specs.FilesSeen.{FilesSeen, Gives, IsEnd, ends_after};
+ghost use Rattle.hyb_outside.specs.FilesSeen.{FilesSeen, FillsFrom, IsEnd, ends_after};
 
 use crate::failed::Failed;
 
@@ -22,7 +22,7 @@ pub trait Files {
 
         // what is given
         ensures within { IfOk result (λ n. n ≤ length into.old) }
-        ensures gives { IfOk result (λ n. Gives ((seen self.old).content name.now) from n into.new) }
+        ensures gives { IfOk result (λ n. FillsFrom ((seen self.old).content name.now) from n into.new) }
         ensures end { IfOk result (λ n. n ≡ 0 → 0 < length into.old → IsEnd ((seen self.old).content name.now) from) }
         ensures ends { IfOk result (λ n. (seen self.new).ends ≡ ends_after n (length into.old) (seen self.old).ends) }
 

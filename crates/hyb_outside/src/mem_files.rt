@@ -22,7 +22,7 @@ pub struct MemFiles {
 impl MemFiles {
     ghost use Rattle.std.specs.Prelude.{◌≡◌, ℕ, List, [], ◌∷◌, ◌++◌, None, OnOk, OnErr};
     ghost use Rattle.hyb_outside.specs.Table.{Replaces};
-    ghost use Rattle.hyb_outside.specs.MemFiles.{mem_files_held};
+    ghost use Rattle.hyb_outside.specs.MemFiles.{mem_files_held, mem_files_seen};
 
     /// No files, and no call that is to fail. It takes no memory.
     pub fn new(alloc: Global) -> MemFiles
@@ -43,6 +43,7 @@ impl MemFiles {
             (mem_files_held self.old).content (mem_files_held self.new).content) }
         ensures rest { OnOk result (mem_files_held self.new ≡
             record (mem_files_held self.old) { content = (mem_files_held self.new).content }) }
+        ensures told { (mem_files_seen self.new).content ≡ (mem_files_held self.new).content }
         ensures err { OnErr result (mem_files_held self.new ≡ mem_files_held self.old) }
     {
         self.table.add(name, content)
@@ -61,8 +62,8 @@ impl MemFiles {
 impl Files for MemFiles {
     ghost use Rattle.std.specs.Prelude.{◌≡◌, ◌<◌, ◌≤◌, ◌-◌, ◌^◌, ◌↔◌, length, IfOk, OnErr, IsErr, IsTrue};
     ghost use Rattle.hyb_base.specs.Count.{next_count, Rose};
-    ghost use Rattle.hyb_outside.specs.FilesSeen.{Gives, IsEnd, ends_after};
-    ghost use Rattle.hyb_outside.specs.Table.{FillsAll};
+    ghost use Rattle.hyb_outside.specs.FilesSeen.{FillsFrom, IsEnd, ends_after};
+    ghost use Rattle.hyb_outside.specs.Table.{FillsWhatFits};
     ghost use Rattle.hyb_outside.specs.MemFiles.{mem_files_held, mem_files_seen, FailsAt};
 
     ghost seen = { mem_files_seen };
@@ -74,7 +75,7 @@ impl Files for MemFiles {
         ensures content { (mem_files_seen self.new).content ≡ (mem_files_seen self.old).content }
         ensures may_read { (mem_files_seen self.new).may_read ≡ (mem_files_seen self.old).may_read }
         ensures within { IfOk result (λ n. n ≤ length into.old) }
-        ensures gives { IfOk result (λ n. Gives ((mem_files_seen self.old).content name.now) from n into.new) }
+        ensures gives { IfOk result (λ n. FillsFrom ((mem_files_seen self.old).content name.now) from n into.new) }
         ensures end { IfOk result (λ n. n ≡ 0 → 0 < length into.old → IsEnd ((mem_files_seen self.old).content name.now) from) }
         ensures ends { IfOk result (λ n. (mem_files_seen self.new).ends ≡ ends_after n (length into.old) (mem_files_seen self.old).ends) }
         ensures no_end { OnErr result ((mem_files_seen self.new).ends ≡ (mem_files_seen self.old).ends) }
@@ -86,7 +87,7 @@ impl Files for MemFiles {
 
         // beyond the trait's
         ensures fails { IsErr result ↔ FailsAt (mem_files_held self.old) name.now }
-        ensures fills { IfOk result (λ n. FillsAll ((mem_files_held self.old).content name.now) from n into.old into.new) }
+        ensures fills { IfOk result (λ n. FillsWhatFits ((mem_files_held self.old).content name.now) from n into.old into.new) }
         ensures ok { IfOk result (λ n. mem_files_held self.new ≡ record (mem_files_held self.old) {
           calls = next_count (mem_files_held self.old).calls;
           ends = ends_after n (length into.old) (mem_files_held self.old).ends;

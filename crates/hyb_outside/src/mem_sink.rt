@@ -21,8 +21,8 @@ pub struct MemSink {
 }
 
 impl MemSink {
-    ghost use Rattle.std.specs.Prelude.{◌≡◌, [], ◌∷◌, ◌++◌, IfOk, OnOk, OnErr};
-    ghost use Rattle.hyb_outside.specs.MemSink.{mem_sink_held};
+    ghost use Rattle.std.specs.Prelude.{◌≡◌, [], ◌∷◌, ◌++◌, Some, IfOk, OnOk, OnErr};
+    ghost use Rattle.hyb_outside.specs.MemSink.{mem_sink_held, mem_sink_seen};
 
     /// An empty sink with room for so many bytes, none of whose calls is to fail.
     pub fn new(alloc: Global, room: usize) -> Result<MemSink, NoMemory>
@@ -47,7 +47,8 @@ impl MemSink {
 
     /// The bytes taken.
     pub fn taken(&self) -> &[u8]
-        ensures { result.now ≡ (mem_sink_held self.now).taken }
+        ensures held { result.now ≡ (mem_sink_held self.now).taken }
+        ensures told { (mem_sink_seen self.now).taken ≡ Some result.now }
     {
         self.bytes.as_slice()
     }
@@ -56,7 +57,7 @@ impl MemSink {
 impl Sink for MemSink {
     ghost use Rattle.std.specs.Prelude.{◌≡◌, ◌<◌, ◌≤◌, ◌-◌, ◌^◌, ◌↔◌, [], ◌++◌, length, take, IfOk, OnOk, OnErr, IsErr};
     ghost use Rattle.hyb_base.specs.Count.{next_count, Rose};
-    ghost use Rattle.hyb_outside.specs.Seen.{Takes};
+    ghost use Rattle.hyb_outside.specs.SinkSeen.{Takes};
     ghost use Rattle.hyb_outside.specs.MemSink.{mem_sink_held, mem_sink_seen, Refuses};
 
     ghost seen = { mem_sink_seen };

@@ -46,8 +46,8 @@ impl NeverFailsFiles {
 impl Files for NeverFailsFiles {
     ghost use Rattle.std.specs.Prelude.{◌≡◌, ◌<◌, ◌≤◌, ◌-◌, ◌^◌, length, IfOk, OnErr, IsOk, IsTrue};
     ghost use Rattle.hyb_base.specs.Count.{Rose};
-    ghost use Rattle.hyb_outside.specs.FilesSeen.{Gives, IsEnd, ends_after};
-    ghost use Rattle.hyb_outside.specs.Table.{FillsAll};
+    ghost use Rattle.hyb_outside.specs.FilesSeen.{FillsFrom, IsEnd, ends_after};
+    ghost use Rattle.hyb_outside.specs.Table.{FillsWhatFits};
     ghost use Rattle.hyb_outside.specs.NeverFails.{never_fails_files_seen};
 
     ghost seen = { never_fails_files_seen };
@@ -58,7 +58,7 @@ impl Files for NeverFailsFiles {
         ensures content { (never_fails_files_seen self.new).content ≡ (never_fails_files_seen self.old).content }
         ensures may_read { (never_fails_files_seen self.new).may_read ≡ (never_fails_files_seen self.old).may_read }
         ensures within { IfOk result (λ n. n ≤ length into.old) }
-        ensures gives { IfOk result (λ n. Gives ((never_fails_files_seen self.old).content name.now) from n into.new) }
+        ensures gives { IfOk result (λ n. FillsFrom ((never_fails_files_seen self.old).content name.now) from n into.new) }
         ensures end { IfOk result (λ n. n ≡ 0 → 0 < length into.old → IsEnd ((never_fails_files_seen self.old).content name.now) from) }
         ensures ends { IfOk result (λ n. (never_fails_files_seen self.new).ends ≡ ends_after n (length into.old) (never_fails_files_seen self.old).ends) }
         ensures no_end { OnErr result ((never_fails_files_seen self.new).ends ≡ (never_fails_files_seen self.old).ends) }
@@ -70,7 +70,7 @@ impl Files for NeverFailsFiles {
 
         // beyond the trait's
         ensures never_fails { IsOk result }
-        ensures fills { IfOk result (λ n. FillsAll ((never_fails_files_seen self.old).content name.now) from n into.old into.new) }
+        ensures fills { IfOk result (λ n. FillsWhatFits ((never_fails_files_seen self.old).content name.now) from n into.old into.new) }
     {
         let content = self.table.find(name).unwrap_or(&[]);
         let given = give(content, from, into);

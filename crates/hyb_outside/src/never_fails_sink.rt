@@ -8,8 +8,13 @@ use crate::sink::Sink;
 pub struct NeverFailsSink;
 
 impl NeverFailsSink {
-    /// A new one.
-    pub fn new() -> NeverFailsSink {
+    ghost use Rattle.std.specs.Prelude.{◌≡◌, None};
+    ghost use Rattle.hyb_outside.specs.NeverFails.{never_fails_sink_seen};
+
+    /// A new one. It tells no bytes, and has no faults.
+    pub fn new() -> NeverFailsSink
+        ensures fresh { never_fails_sink_seen result ≡ record { taken = None; faults = 0 } }
+    {
         NeverFailsSink
     }
 }
@@ -17,7 +22,7 @@ impl NeverFailsSink {
 impl Sink for NeverFailsSink {
     ghost use Rattle.std.specs.Prelude.{◌≡◌, ◌<◌, ◌≤◌, ◌-◌, ◌^◌, [], length, take, Ok, IfOk, OnErr};
     ghost use Rattle.hyb_base.specs.Count.{Rose};
-    ghost use Rattle.hyb_outside.specs.Seen.{Takes};
+    ghost use Rattle.hyb_outside.specs.SinkSeen.{Takes};
     ghost use Rattle.hyb_outside.specs.NeverFails.{never_fails_sink_seen};
 
     ghost seen = { never_fails_sink_seen };

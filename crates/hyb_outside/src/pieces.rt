@@ -1,15 +1,15 @@
 //! Pieces of output for three sinks, in one order.
 ghost use Rattle.std.specs.Prelude.{[], ◌∷◌, map, OnOk, OnErr};
-ghost use Rattle.hyb_outside.specs.Seen.{Takes, Cuts};
+ghost use Rattle.hyb_outside.specs.SinkSeen.{Takes, Cuts};
 ghost use Rattle.hyb_outside.specs.Pieces.{piece, sinks, Emits};
-ghost use Rattle.hyb_outside.specs.Parts.{piece_of};
+ghost use Rattle.hyb_outside.specs.Slices.{piece_of};
 
 use crate::failed::Failed;
 use crate::sink::Sink;
 
 /// The sink that a piece is for.
 #[derive(Clone, Copy, Debug, PartialEq, Eq)]
-pub enum To {
+pub enum SinkName {
     /// The lines of the program.
     Out,
     /// Notes, traces, dumps and the status.
@@ -36,7 +36,7 @@ pub fn offer<S: Sink>(sink: &mut S, piece: &[u8]) -> Result<(), Failed>
 
 /// Offers one piece to its sink. The others take nothing.
 pub fn put<O: Sink, N: Sink, Q: Sink>(
-    to: To,
+    to: SinkName,
     bytes: &[u8],
     out: &mut O,
     notes: &mut N,
@@ -47,34 +47,34 @@ pub fn put<O: Sink, N: Sink, Q: Sink>(
         (sinks (O.seen out.new) (N.seen notes.new) (Q.seen order.new)) }
 {
     match to {
-        To::Out => offer(out, bytes),
-        To::Notes => offer(notes, bytes),
-        To::Order => offer(order, bytes),
+        SinkName::Out => offer(out, bytes),
+        SinkName::Notes => offer(notes, bytes),
+        SinkName::Order => offer(order, bytes),
     }
 }
 
 /// Bytes for one of the sinks.
 #[derive(Clone, Copy, Debug)]
-pub struct Part<'a> {
+pub struct Piece<'a> {
     /// The sink.
-    pub to: To,
+    pub to: SinkName,
     /// The bytes.
     pub bytes: &'a [u8],
 }
 
 /// Offers pieces in their order, up to the first that fails.
 pub fn emit<O: Sink, N: Sink, Q: Sink>(
-    parts: &[Part<'_>],
+    pieces: &[Piece<'_>],
     out: &mut O,
     notes: &mut N,
     order: &mut Q,
 ) -> Result<(), Failed>
-    ensures { Emits (map piece_of parts.now) result
+    ensures { Emits (map piece_of pieces.now) result
         (sinks (O.seen out.old) (N.seen notes.old) (Q.seen order.old))
         (sinks (O.seen out.new) (N.seen notes.new) (Q.seen order.new)) }
 {
-    for part in parts {
-        put(part.to, part.bytes, out, notes, order)?;
+    for piece in pieces {
+        put(piece.to, piece.bytes, out, notes, order)?;
     }
     Ok(())
 }

@@ -1,13 +1,13 @@
 //! What takes bytes.
 ghost use Rattle.std.specs.Prelude.{◌≡◌, ◌<◌, ◌≤◌, ◌-◌, ◌^◌, [], length, take, IfOk, OnErr};
 ghost use Rattle.hyb_base.specs.Count.{Rose};
-ghost use Rattle.hyb_outside.specs.Seen.{Seen, Takes};
+ghost use Rattle.hyb_outside.specs.SinkSeen.{SinkSeen, Takes};
 
 use crate::failed::Failed;
 
 /// Takes bytes piece by piece.
 pub trait Sink {
-    ghost seen: { Self → Seen };
+    ghost seen: { Self → SinkSeen };
 
     /// Takes the first bytes of a piece, at least one where the piece isn't empty, and answers how many.
     ///

@@ -31,7 +31,7 @@ impl<W: Write> Sink for StdSink<W> {
     ghost use Rattle.std.specs.Prelude.{◌≡◌, ◌<◌, ◌≤◌, ◌-◌, ◌^◌, [], length, take, IfOk, OnOk, OnErr};
     ghost use Rattle.std.specs.Io.KnownBytes.{WriteAppends};
     ghost use Rattle.hyb_base.specs.Count.{next_count, Rose};
-    ghost use Rattle.hyb_outside.specs.Seen.{Takes};
+    ghost use Rattle.hyb_outside.specs.SinkSeen.{Takes};
     ghost use Rattle.hyb_outside.specs.StdSink.{std_sink_seen, writer_of};
 
     ghost seen = { std_sink_seen };

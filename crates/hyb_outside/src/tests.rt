@@ -8,7 +8,7 @@ use crate::mem_files::MemFiles;
 use crate::mem_sink::MemSink;
 use crate::never_fails_files::NeverFailsFiles;
 use crate::never_fails_sink::NeverFailsSink;
-use crate::pieces::{Part, To, emit, offer, put};
+use crate::pieces::{Piece, SinkName, emit, offer, put};
 use crate::sink::Sink;
 use crate::std_sink::StdSink;
 use std::io::Write;
@@ -133,28 +133,31 @@ fn pieces_in_order(rt: HostRuntime) -> Result<(), Fail> {
     let mut notes = MemSink::new(rt.alloc(), 9)?;
     let mut order = MemSink::new(rt.alloc(), 9)?;
     assert_eq!(rt;
-        put(To::Out, b"1\n", &mut out, &mut notes, &mut order),
+        put(SinkName::Out, b"1\n", &mut out, &mut notes, &mut order),
         Ok(())
     );
-    let parts = [
-        Part {
-            to: To::Order,
+    let pieces = [
+        Piece {
+            to: SinkName::Order,
             bytes: b"2\n",
         },
-        Part {
-            to: To::Notes,
+        Piece {
+            to: SinkName::Notes,
             bytes: b"3\n",
         },
-        Part {
-            to: To::Out,
+        Piece {
+            to: SinkName::Out,
             bytes: b"45\n",
         },
-        Part {
-            to: To::Notes,
+        Piece {
+            to: SinkName::Notes,
             bytes: b"6\n",
         },
     ];
-    assert_eq!(rt; emit(&parts, &mut out, &mut notes, &mut order), Err(Failed));
+    assert_eq!(rt;
+        emit(&pieces, &mut out, &mut notes, &mut order),
+        Err(Failed)
+    );
     assert!(rt; out.taken() == b"1\n".as_slice());
     assert!(rt; notes.taken() == b"3\n".as_slice());
     assert!(rt; order.taken() == b"2\n".as_slice());

@@ -1,5 +1,5 @@
 use Rattle.std.proofs.Common.{length, take, ◌-◌, ◌≤◌}
-use Rattle.hyb_outside.specs.Seen.{Takes}
+use Rattle.hyb_outside.specs.SinkSeen.{Takes}
 use Rattle.hyb_outside.proofs.pieces.offer.Given as goal
 
 -- the bytes before `done` are taken
