@@ -4,7 +4,7 @@ use Rattle.std.specs.Cmp.Lexicographic.{pointwise}
 use Rattle.std.specs.Map.{lookup, values_of}
 use Rattle.f77_ast.specs.declared.entities.EntityKey.{EntityKey}
 use Rattle.f77_ast.specs.declared.program.Entity.{Entity}
-use Rattle.f77_ast.specs.Entity.{AreKeyed, is_called, entity_in}
+use Rattle.f77_ast.specs.Entity.{AreKeyed, is_named, entity_in}
 
 -- whether a key is that of a name in a unit
 abbrev pub is_key : (unit : ℕ) (name : List ℕ) → EntityKey → Bool
@@ -15,7 +15,7 @@ pub lookup-is_find : (unit : ℕ) (name : List ℕ) (es : List (EntityKey × Ent
 lookup-is_find unit name [] keyed = refl
 lookup-is_find unit name (e ∷ es) keyed =
     let here = keyed 0 e (omega arith) in
-    let same : is_key unit name e.0 ≡ is_called unit name e.1 = λ i. unit == here.0 i && pointwise nat_eq name (here.1 i) in
+    let same : is_key unit name e.0 ≡ is_named unit name e.1 = λ i. unit == here.0 i && pointwise nat_eq name (here.1 i) in
     let rest : lookup (is_key unit name) es ≡ entity_in (values_of es) unit name = lookup-is_find unit name es (λ k d h. keyed (suc k) d (omega (arith, h))) in
     λ i. cond (same i) (Some e.1) (rest i)
 

@@ -3,7 +3,7 @@ use Rattle.std.specs.Bool.{Decides}
 use Rattle.std.specs.Option.{is_some, option_or, option_copied}
 use Rattle.std.proofs.lemmas.Bool.Decides.{Decides-eqb}
 use Rattle.f77_ast.specs.declared.program.Loop.{Loop}
-use Rattle.f77_ast.specs.Loop.{has_ordinal, kept_with, loop_of, has_loop, NumberedLoopsStandInPlace}
+use Rattle.f77_ast.specs.Loop.{has_ordinal, kept_with, loop_at, has_loop, NumberedLoopsStandInPlace}
 
 -- what is found has the ordinal
 pub IfSome-find_ordinal : (ordinal : ℕ) (loops : List Loop) → IfSome (find (has_ordinal ordinal) loops) (λ loop. loop.ordinal ≡ ordinal)
@@ -52,8 +52,8 @@ has_loop-at ordinal (x ∷ xs) (suc place) loop e h = by (x.ordinal == ordinal) 
     by false rest = rest
 
 -- there is a loop of an ordinal exactly where one of the list has it
-pub is_some-loop_of : (loops : List Loop) (ordinal : ℕ) → is_some (loop_of loops ordinal) ≡ has_loop loops ordinal
-is_some-loop_of loops ordinal = by (slice_get loops (ordinal - 1)) refl
+pub is_some-loop_at : (loops : List Loop) (ordinal : ℕ) → is_some (loop_at loops ordinal) ≡ has_loop loops ordinal
+is_some-loop_at loops ordinal = by (slice_get loops (ordinal - 1)) refl
   where
     kept : (loop : Loop) (b : Bool) → slice_get loops (ordinal - 1) ≡ Some loop → has_ordinal ordinal loop ≡ b → is_some (option_or (cond b (Some loop) None) (find (has_ordinal ordinal) loops)) ≡ has_loop loops ordinal
     kept loop true e h = sym (has_loop-at ordinal loops (ordinal - 1) loop e h)
@@ -64,8 +64,8 @@ is_some-loop_of loops ordinal = by (slice_get loops (ordinal - 1)) refl
     by (Some loop) e = kept loop (has_ordinal ordinal loop) e refl
 
 -- the loop of an ordinal has it
-pub IfSome-loop_of : (loops : List Loop) (ordinal : ℕ) → IfSome (loop_of loops ordinal) (λ loop. loop.ordinal ≡ ordinal)
-IfSome-loop_of loops ordinal = by (slice_get loops (ordinal - 1))
+pub IfSome-loop_at : (loops : List Loop) (ordinal : ℕ) → IfSome (loop_at loops ordinal) (λ loop. loop.ordinal ≡ ordinal)
+IfSome-loop_at loops ordinal = by (slice_get loops (ordinal - 1))
   where
     kept : (loop : Loop) (b : Bool) → Decides b (loop.ordinal ≡ ordinal) → IfSome (option_or (cond b (Some loop) None) (find (has_ordinal ordinal) loops)) (λ l. l.ordinal ≡ ordinal)
     kept loop true h = h.0 refl
@@ -76,8 +76,8 @@ IfSome-loop_of loops ordinal = by (slice_get loops (ordinal - 1))
     by (Some loop) = kept loop (has_ordinal ordinal loop) (Decides-eqb loop.ordinal ordinal)
 
 -- where the loops are numbered in order, the loop of an ordinal stands at the ordinal's place
-pub loop_of-numbered : NumberedLoopsStandInPlace
-loop_of-numbered loops place numbered =
+pub loop_at-numbered : NumberedLoopsStandInPlace
+loop_at-numbered loops place numbered =
     ap (λ k. option_or (kept_with (place + 1) (slice_get loops k)) (find (has_ordinal (place + 1)) loops)) same_place
     ∙ by (slice_get loops place) refl
   where

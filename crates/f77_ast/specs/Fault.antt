@@ -1,6 +1,7 @@
+-- The codes of faults.
 use Rattle.std.specs.Prelude.{ℕ}
-use Rattle.f77_ast.specs.declared.refusal.Fault.{Fault}
-use Rattle.f77_ast.specs.declared.refusal.Fault.TheVariants.{ZeroDivisor, Subscript, OutsideRegion, Substring, ZeroIncrement, DoRange, ValueDummyAssigned, InputEnd, InputForm, LineLimit, CharRange, DoVariableWritten}
+use Rattle.f77_ast.specs.declared.fault.Fault.{Fault}
+use Rattle.f77_ast.specs.declared.fault.Fault.TheVariants.{ZeroDivisor, Subscript, OutsideRegion, Substring, ZeroIncrement, DoRange, ValueDummyAssigned, InputEnd, InputForm, LineLimit, CharRange, DoVariableWritten}
 
 -- a fault's code: its place in the list of faults, from 1
 abbrev pub code_of : Fault → ℕ

@@ -1,3 +1,4 @@
+-- The DO-loops of a program, by their ordinals (ANSI X3.9-1978, section 11.10).
 use Rattle.std.specs.Prelude.{◌≡◌, ℕ, ◌+◌, ◌-◌, ◌==◌, Bool, List, Option, None, Some, slice_get, find, if◌then◌else◌}
 use Rattle.std.specs.List.{list_any}
 use Rattle.std.specs.Option.{option_or}
@@ -17,8 +18,8 @@ abbrev pub in_place : List Loop → ℕ → Option Loop
 in_place loops ordinal = kept_with ordinal (slice_get loops (ordinal - 1))
 
 -- the loop of an ordinal: the one at the ordinal's place, where that has it, else the first of the list that has it
-abbrev pub loop_of : List Loop → ℕ → Option Loop
-loop_of loops ordinal = option_or (in_place loops ordinal) (find (has_ordinal ordinal) loops)
+abbrev pub loop_at : List Loop → ℕ → Option Loop
+loop_at loops ordinal = option_or (in_place loops ordinal) (find (has_ordinal ordinal) loops)
 
 -- whether some loop of the list has this ordinal
 abbrev pub has_loop : List Loop → ℕ → Bool
@@ -31,4 +32,4 @@ IsNumbered loops = (place : ℕ) (loop : Loop) → slice_get loops place ≡ Som
 -- in a list so numbered, the loop of an ordinal stands at the place of the ordinal
 abbrev pub NumberedLoopsStandInPlace : Type 0
 NumberedLoopsStandInPlace =
-    (loops : List Loop) (place : ℕ) → IsNumbered loops → loop_of loops (place + 1) ≡ slice_get loops place
+    (loops : List Loop) (place : ℕ) → IsNumbered loops → loop_at loops (place + 1) ≡ slice_get loops place

@@ -1,3 +1,4 @@
+-- Symbolic names (ANSI X3.9-1978, section 2.2).
 use Rattle.std.specs.Prelude.{ℕ, Bool, false, List, [], ◌∷◌, length, IsTrue, nat_le, ◌&&◌, ◌||◌}
 use Rattle.std.specs.List.{list_all}
 

@@ -5,9 +5,10 @@
 #![tactic(auto)]
 
 pub mod code;
+pub mod data;
 pub mod entities;
 pub mod expr;
-pub mod initial;
+pub mod fault;
 pub mod name;
 pub mod program;
 pub mod refusal;

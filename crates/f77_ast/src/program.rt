@@ -1,7 +1,7 @@
 //! Programs: units of statements, and the tables of their names, storage and loops.
 ghost use Rattle.std.specs.Prelude.{◌≡◌, ◌↔◌, IsTrue, IsSome, IfSome, find};
 ghost use Rattle.std.specs.Option.{option_copied};
-ghost use Rattle.f77_ast.specs.Loop.{has_ordinal, in_place, loop_of, has_loop, NumberedLoopsStandInPlace};
+ghost use Rattle.f77_ast.specs.Loop.{has_ordinal, in_place, loop_at, has_loop, NumberedLoopsStandInPlace};
 
 use crate::code::Code;
 use crate::entities::Entities;
@@ -20,7 +20,8 @@ pub struct Card {
     pub label: Option<Label>,
     /// The initial line, counted from 1.
     pub line: u32,
-    /// The statement's characters, without the blanks outside character constants.
+    /// Columns 7 to 72 of its lines, joined: outside character constants without blanks and in upper case, inside as they
+    /// stand.
     pub text: Bytes,
 }
 
@@ -107,8 +108,9 @@ pub struct Loop {
     pub from: u32,
     /// Its terminal statement, counted likewise.
     pub last: u32,
-    /// Whether it is closed: its range and every unit that it can reach by CALL or function reference hold no READ,
-    /// PRINT, WRITE or STOP, and its range holds no RETURN and no jump to a label outside it.
+    /// Whether it is closed, so that its iterations may be judged and run in any order: neither its range nor a unit that
+    /// the range reaches by CALL or function reference, directly or through others, has a READ, PRINT, WRITE or STOP,
+    /// and the range has no RETURN and no jump to a label outside it.
     pub closed: bool,
 }
 
@@ -146,7 +148,7 @@ impl Program {
     /// It takes constant time where the loops stand in the order of their ordinals, as those of a file that was
     /// read do; elsewhere it looks through the list.
     pub fn loop_at(&self, ordinal: u32) -> Option<&Loop>
-        ensures value { option_copied result ≡ loop_of self.now.loops ordinal }
+        ensures value { option_copied result ≡ loop_at self.now.loops ordinal }
         ensures some { IsSome result ↔ IsTrue (has_loop self.now.loops ordinal) }
         ensures ordinal { IfSome result (λ loop. loop.now.ordinal ≡ ordinal) }
     {
@@ -156,7 +158,7 @@ impl Program {
 
 /// The loop of an ordinal.
 fn find_loop(loops: &[Loop], ordinal: u32) -> Option<&Loop>
-    ensures { option_copied result ≡ loop_of loops.now ordinal }
+    ensures { option_copied result ≡ loop_at loops.now ordinal }
 {
     match in_place(loops, ordinal) {
         Some(found) => Some(found),

@@ -1,6 +1,6 @@
 //! What one step of a process did.
 
-use crate::refusal::Fault;
+use crate::fault::Fault;
 use hyb_base::ops::RedOp;
 
 /// What a step answers.
@@ -8,14 +8,14 @@ use hyb_base::ops::RedOp;
 pub enum Stepped {
     /// One storage unit was read.
     Read {
-        /// The unit's address.
+        /// The address of the storage unit.
         address: u32,
         /// The operator, where the read belongs to an accumulation.
         by: Option<RedOp>,
     },
     /// One storage unit was written.
     Wrote {
-        /// The unit's address.
+        /// The address of the storage unit.
         address: u32,
         /// The operator, where the write belongs to an accumulation.
         by: Option<RedOp>,

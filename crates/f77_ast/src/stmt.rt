@@ -1,7 +1,7 @@
 //! Statements (ANSI X3.9-1978, sections 8 to 15).
 
+use crate::data::DataGroup;
 use crate::expr::{Expr, Ref};
-use crate::initial::DataGroup;
 use crate::name::Name;
 use crate::specification::{
     CommonGroup, Declarator, EquivalenceGroup, ImplicitRule, NamedConstant, SaveEntry, TypeSpec,
@@ -24,7 +24,7 @@ pub struct LoopControl {
     /// The terminal parameter.
     pub last: Expr,
     /// The incrementation parameter; where it is left out, 1.
-    pub step: Option<Expr>,
+    pub increment: Option<Expr>,
 }
 
 /// What STOP shows: 1 to 5 digits or a character constant (ANSI X3.9-1978, section 11.12).

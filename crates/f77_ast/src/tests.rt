@@ -4,12 +4,13 @@
 use crate::code::{Code, Instr};
 use crate::entities::Entities;
 use crate::expr::{Expr, Kind};
+use crate::fault::Fault;
 use crate::name::Name;
 use crate::program::{
     Bounds, Card, Entity, Layout, Listed, Listing, Loop, Loops, Place, Program, Region, Regions,
     Unit, Units,
 };
-use crate::refusal::{Fault, FrontError, Refusal};
+use crate::refusal::{FrontError, Refusal};
 use crate::specification::Bound;
 use crate::step::{Control, Stepped};
 use crate::stmt::Stmt;

@@ -21,7 +21,7 @@ pub struct DataValue {
     /// How often the constant stands; where it is left out, once.
     pub repeat: Option<Repeat>,
     /// The constant.
-    pub constant: Constant,
+    pub constant: DataConstant,
 }
 
 /// repeat: digits; name (ANSI X3.9-1978, section 9.1).
@@ -36,7 +36,7 @@ pub enum Repeat {
 /// const: [`+` or `-`] digits; `.TRUE.`; `.FALSE.`; a character constant; name
 /// (ANSI X3.9-1978, sections 4.2 and 9.1).
 #[derive(Drop)]
-pub enum Constant {
+pub enum DataConstant {
     /// [`+` or `-`] digits, with the sign in the value.
     Int(i64),
     /// `.TRUE.` or `.FALSE.`.
