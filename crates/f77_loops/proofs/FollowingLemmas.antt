@@ -7,36 +7,36 @@ use Rattle.std.specs.Option.{unwrap_or, option_map, option_map_or, option_to_lis
 use Rattle.f77_ast.specs.declared.program.Listed.{Listed}
 use Rattle.f77_loops.specs.declared.following.Following.{Following}
 use Rattle.f77_loops.specs.declared.ranges.Range.{Range}
-use Rattle.f77_loops.specs.Following.{number_at, last_by, keeps_to, range_by, Knows}
+use Rattle.f77_loops.specs.Following.{number_at, last_by, is_closed_to, range_by, Knows}
 use Rattle.f77_loops.specs.Ranges.{range_from, ranges_in, barrier_in}
-use Rattle.f77_meaning.specs.Loops.{terminal_of, has_label, distance_to, may_be_closed}
+use Rattle.f77_meaning.specs.Loops.{terminal_label, has_label, distance_to, is_barrier}
 
 -- ---- closed loops
 
 -- whether a loop may be closed with a statement in its range
 abbrev is_open : Listed → Bool
-is_open listed = may_be_closed listed.stmt
+is_open listed = not (is_barrier listed.stmt)
 
 -- a barrier stands at the first of its statements or behind it
-barrier_behind : (listing : List Listed) (number last : ℕ) → last < number → keeps_to last (barrier_in number listing) ≡ true
+barrier_behind : (listing : List Listed) (number last : ℕ) → last < number → is_closed_to last (barrier_in number listing) ≡ true
 barrier_behind [] number last h = refl
-barrier_behind (x ∷ xs) number last h = by (may_be_closed x.stmt) (barrier_behind xs (suc number) last (omega arith))
+barrier_behind (x ∷ xs) number last h = by (is_barrier x.stmt) (barrier_behind xs (suc number) last (omega arith))
   where
-    by : (b : Bool) → keeps_to last (barrier_in (suc number) xs) ≡ true → keeps_to last (if b then barrier_in (suc number) xs else Some number) ≡ true
-    by true rest = rest
-    by false rest = grind (arith, nat_tests)
+    by : (b : Bool) → is_closed_to last (barrier_in (suc number) xs) ≡ true → is_closed_to last (if b then Some number else barrier_in (suc number) xs) ≡ true
+    by false rest = rest
+    by true rest = grind (arith, nat_tests)
 
 -- the barrier stands behind so many statements exactly where all of them may be in a closed loop
-keeps_to-is_all : (listing : List Listed) (number distance : ℕ) → keeps_to (number + distance) (barrier_in number listing) ≡ list_all is_open (take (suc distance) listing)
-keeps_to-is_all [] number distance = refl
-keeps_to-is_all (x ∷ xs) number distance = by (may_be_closed x.stmt) distance (keeps_to-is_all xs (suc number))
+is_closed_to-is_all : (listing : List Listed) (number distance : ℕ) → is_closed_to (number + distance) (barrier_in number listing) ≡ list_all is_open (take (suc distance) listing)
+is_closed_to-is_all [] number distance = refl
+is_closed_to-is_all (x ∷ xs) number distance = by (is_barrier x.stmt) distance (is_closed_to-is_all xs (suc number))
   where
-    by : (b : Bool) (d : ℕ) → ((d : ℕ) → keeps_to (suc number + d) (barrier_in (suc number) xs) ≡ list_all is_open (take (suc d) xs)) → keeps_to (number + d) (if b then barrier_in (suc number) xs else Some number) ≡ (b && list_all is_open (take d xs))
-    by true zero rest = barrier_behind xs (suc number) (number + 0) (omega arith)
-    by true (suc d) rest =
+    by : (b : Bool) (d : ℕ) → ((d : ℕ) → is_closed_to (suc number + d) (barrier_in (suc number) xs) ≡ list_all is_open (take (suc d) xs)) → is_closed_to (number + d) (if b then Some number else barrier_in (suc number) xs) ≡ (not b && list_all is_open (take d xs))
+    by false zero rest = barrier_behind xs (suc number) (number + 0) (omega arith)
+    by false (suc d) rest =
         let same : number + suc d ≡ suc number + d = omega arith in
-        ap (λ n. keeps_to n (barrier_in (suc number) xs)) same ∙ rest d
-    by false d rest = grind (arith, nat_tests)
+        ap (λ n. is_closed_to n (barrier_in (suc number) xs)) same ∙ rest d
+    by true d rest = grind (arith, nat_tests)
 
 -- ---- labels
 
@@ -64,7 +64,7 @@ last_before number label listed following old new knows behind noted =
 -- the range of a DO statement that stands before what is known
 range_before : (number label : ℕ) (following : List Listed) (known : Following) → Knows (number + 1) following known → range_by known label ≡ range_from number label following
 range_before number label following known knows =
-    ap (λ n. range n (keeps_to n known.barrier)) (knows.labels label)
+    ap (λ n. range n (is_closed_to n known.barrier)) (knows.labels label)
     ∙ ap (range (number + 1 + distance_to label following)) closed
   where
     range : ℕ → Bool → Range
@@ -73,14 +73,14 @@ range_before number label following known knows =
     one_more : suc (distance_to label following) ≡ 1 + distance_to label following
     one_more = omega arith
 
-    closed : keeps_to (number + 1 + distance_to label following) known.barrier ≡ list_all is_open (take (1 + distance_to label following) following)
+    closed : is_closed_to (number + 1 + distance_to label following) known.barrier ≡ list_all is_open (take (1 + distance_to label following) following)
     closed =
-        ap (keeps_to (number + 1 + distance_to label following)) knows.barrier
-        ∙ keeps_to-is_all following (number + 1) (distance_to label following)
+        ap (is_closed_to (number + 1 + distance_to label following)) knows.barrier
+        ∙ is_closed_to-is_all following (number + 1) (distance_to label following)
         ∙ ap (λ n. list_all is_open (take n following)) one_more
 
-ranges_before : (number : ℕ) (listed : Listed) (following : List Listed) (known : Following) → Knows (number + 1) following known → known.ranges.items ++ option_to_list (option_map (range_by known) (terminal_of listed.stmt)) ≡ reverse (ranges_in number (listed ∷ following))
-ranges_before number listed following known knows = by (terminal_of listed.stmt)
+ranges_before : (number : ℕ) (listed : Listed) (following : List Listed) (known : Following) → Knows (number + 1) following known → known.ranges.items ++ option_to_list (option_map (range_by known) (terminal_label listed.stmt)) ≡ reverse (ranges_in number (listed ∷ following))
+ranges_before number listed following known knows = by (terminal_label listed.stmt)
   where
     left : known.ranges.items ≡ reverse (ranges_in (suc number) following)
     left = knows.ranges ∙ ap (λ n. reverse (ranges_in n following)) (add-one number)
@@ -95,11 +95,11 @@ ranges_before number listed following known knows = by (terminal_of listed.stmt)
 -- ---- all of it
 
 -- what is known after going back by a statement
-pub knows_before : (number : ℕ) (listed : Listed) (following : List Listed) (old new : Following) → Knows (number + 1) following old → new.end ≡ old.end → ((label : ℕ) → number_at new.labels label ≡ (if has_label label listed then Some number else number_at old.labels label)) → new.barrier ≡ (if may_be_closed listed.stmt then old.barrier else Some number) → new.ranges.items ≡ old.ranges.items ++ option_to_list (option_map (range_by old) (terminal_of listed.stmt)) → Knows number (listed ∷ following) new
+pub knows_before : (number : ℕ) (listed : Listed) (following : List Listed) (old new : Following) → Knows (number + 1) following old → new.end ≡ old.end → ((label : ℕ) → number_at new.labels label ≡ (if has_label label listed then Some number else number_at old.labels label)) → new.barrier ≡ (if is_barrier listed.stmt then Some number else old.barrier) → new.ranges.items ≡ old.ranges.items ++ option_to_list (option_map (range_by old) (terminal_label listed.stmt)) → Knows number (listed ∷ following) new
 knows_before number listed following old new knows behind noted barrier added = record {
   behind = omega (arith, knows.behind);
   labels = λ label. last_before number label listed following old new knows behind (noted label);
-  barrier = barrier ∙ ap (λ o. if may_be_closed listed.stmt then o else Some number) (knows.barrier ∙ ap (λ n. barrier_in n following) (add-one number));
+  barrier = barrier ∙ ap (λ o. if is_barrier listed.stmt then Some number else o) (knows.barrier ∙ ap (λ n. barrier_in n following) (add-one number));
   ranges = added ∙ ranges_before number listed following old knows;
 }
 

@@ -13,18 +13,18 @@ use Rattle.f77_meaning.specs.Loops.{distance_to}
 abbrev pub number_at : Labels → (label : ℕ) → Option ℕ
 number_at labels label = get nat_eq labels.numbers label
 
--- the nearest statement that has a label, or the one behind the unit's last one
+-- the nearest executable statement that has this label, or the number behind the unit's last statement
 abbrev pub last_by : Following → (label : ℕ) → ℕ
 last_by known label = unwrap_or (number_at known.labels label) known.end
 
--- whether a barrier that may be there stands behind a statement
-abbrev pub keeps_to : (last : ℕ) → Option ℕ → Bool
-keeps_to last None = true
-keeps_to last (Some barrier) = nat_lt last barrier
+-- whether the nearest barrier, where there is one, stands behind a statement
+abbrev pub is_closed_to : (last : ℕ) → Option ℕ → Bool
+is_closed_to last None = true
+is_closed_to last (Some barrier) = nat_lt last barrier
 
 -- the range that begins here and ends with a label
 abbrev pub range_by : Following → (label : ℕ) → Range
-range_by known label = record { last = last_by known label; closed = keeps_to (last_by known label) known.barrier }
+range_by known label = record { last = last_by known label; closed = is_closed_to (last_by known label) known.barrier }
 
 -- what is known of these statements of a unit, the first of which is statement `number` of the file, is so; they are all
 -- that the unit has left

@@ -1,3 +1,3 @@
 pub mod Following
 pub mod Ranges
-pub mod Turn
+pub mod Adding

@@ -1,29 +1,29 @@
 -- The ranges of DO statements by themselves, before they have their places in a file.
-use Rattle.std.specs.Prelude.{ℕ, suc, ◌+◌, List, [], ◌∷◌, take, Option, None, Some, if◌then◌else◌}
+use Rattle.std.specs.Prelude.{ℕ, suc, ◌+◌, not, List, [], ◌∷◌, take, Option, None, Some, if◌then◌else◌}
 use Rattle.std.specs.List.{list_all}
 use Rattle.std.specs.Option.{option_map_or}
 use Rattle.f77_ast.specs.declared.program.Listed.{Listed}
 use Rattle.f77_ast.specs.declared.program.Loop.{Loop}
 use Rattle.f77_loops.specs.declared.ranges.Range.{Range}
-use Rattle.f77_meaning.specs.Loops.{terminal_of, distance_to, may_be_closed}
+use Rattle.f77_meaning.specs.Loops.{terminal_label, distance_to, is_barrier}
 
 -- the range of a DO statement, which is statement `number` of the file: these statements follow it in its unit
 abbrev pub range_from : (number label : ℕ) → List Listed → Range
 range_from number label following = record {
   last = number + 1 + distance_to label following;
-  closed = list_all (λ listed. may_be_closed listed.stmt) (take (1 + distance_to label following) following);
+  closed = list_all (λ listed. not (is_barrier listed.stmt)) (take (1 + distance_to label following) following);
 }
 
 -- the ranges of the DO statements among some statements of a unit, where the first of these is statement `number`
 abbrev pub ranges_in : (number : ℕ) → List Listed → List Range
 ranges_in number [] = []
 ranges_in number (listed ∷ following) =
-    option_map_or (λ label. range_from number label following ∷ ranges_in (suc number) following) (terminal_of listed.stmt) (ranges_in (suc number) following)
+    option_map_or (λ label. range_from number label following ∷ ranges_in (suc number) following) (terminal_label listed.stmt) (ranges_in (suc number) following)
 
--- the first of some statements that keeps a loop from being closed, where the first of all is statement `number`
+-- the first barrier of some statements, where the first of all is statement `number`
 abbrev pub barrier_in : (number : ℕ) → List Listed → Option ℕ
 barrier_in number [] = None
-barrier_in number (listed ∷ following) = if may_be_closed listed.stmt then barrier_in (suc number) following else Some number
+barrier_in number (listed ∷ following) = if is_barrier listed.stmt then Some number else barrier_in (suc number) following
 
 -- a loop with its range, whose first statement has this number
 abbrev pub loop_with : (unit ordinal from line : ℕ) → Range → Loop

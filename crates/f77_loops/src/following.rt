@@ -2,12 +2,12 @@
 ghost use Rattle.std.specs.Prelude.{◌≡◌, ◌+◌, ◌∷◌, [], ◌++◌, OnOk, List, if◌then◌else◌};
 ghost use Rattle.std.specs.Option.{option_map, option_to_list};
 ghost use Rattle.f77_ast.specs.declared.program.Listed.{Listed};
-ghost use Rattle.f77_meaning.specs.Loops.{terminal_of, may_be_closed};
-ghost use Rattle.f77_loops.specs.Following.{last_by, keeps_to, range_by, Knows};
+ghost use Rattle.f77_meaning.specs.Loops.{terminal_label, is_barrier};
+ghost use Rattle.f77_loops.specs.Following.{last_by, is_closed_to, range_by, Knows};
 
 use crate::labels::{Labels, no_labels, note, number_of};
 use crate::ranges::Range;
-use crate::statements::{may_be_closed, terminal_of};
+use crate::statements::{is_barrier, terminal_label};
 use f77_ast::program::Listed;
 use f77_ast::stmt::{Label, Stmt};
 use hyb_base::no_memory::NoMemory;
@@ -18,9 +18,9 @@ use std::alloc::Global;
 pub struct Following {
     /// The number of the statement behind the unit's last one.
     pub end: u32,
-    /// The nearest executable statement that has a label.
+    /// For each label the nearest executable statement that has it.
     pub labels: Labels,
-    /// The nearest statement that keeps a loop from being closed.
+    /// The nearest barrier: no loop with it in its range is closed.
     pub barrier: Option<u32>,
     /// The ranges of their DO statements, the last one's first.
     pub ranges: Vec<Range>,
@@ -39,16 +39,16 @@ impl Following {
         }
     }
 
-    /// The nearest statement that has a label, or the one behind the unit's last one.
+    /// The nearest executable statement that has this label, or the number behind the unit's last statement.
     fn last(&self, label: Label) -> u32
         ensures { result ≡ last_by self.now label }
     {
         number_of(&self.labels, label).unwrap_or(self.end)
     }
 
-    /// Whether no statement up to this one keeps a loop from being closed.
-    fn is_open_to(&self, last: u32) -> bool
-        ensures { result ≡ keeps_to last self.now.barrier }
+    /// Whether no statement up to this one is a barrier.
+    fn is_closed_to(&self, last: u32) -> bool
+        ensures { result ≡ is_closed_to last self.now.barrier }
     {
         match self.barrier {
             None => true,
@@ -58,13 +58,13 @@ impl Following {
 
     /// The range of a DO statement that stands here; none of any other statement.
     fn range_of(&self, stmt: &Stmt) -> Option<Range>
-        ensures { result ≡ option_map (range_by self.now) (terminal_of stmt.now) }
+        ensures { result ≡ option_map (range_by self.now) (terminal_label stmt.now) }
     {
-        let label = terminal_of(stmt)?;
+        let label = terminal_label(stmt)?;
         let last = self.last(label);
         Some(Range {
             last,
-            closed: self.is_open_to(last),
+            closed: self.is_closed_to(last),
         })
     }
 
@@ -90,13 +90,13 @@ fn add_range(ranges: &mut Vec<Range>, range: Option<Range>) -> Result<(), NoMemo
     Ok(())
 }
 
-/// The nearest statement that keeps a loop from being closed, after going back by a statement.
+/// The nearest barrier, after going back by a statement.
 fn barrier_before(barrier: Option<u32>, number: u32, stmt: &Stmt) -> Option<u32>
-    ensures { result ≡ (if may_be_closed stmt.now then barrier else Some number) }
+    ensures { result ≡ (if is_barrier stmt.now then Some number else barrier) }
 {
-    if may_be_closed(stmt) {
-        barrier
-    } else {
+    if is_barrier(stmt) {
         Some(number)
+    } else {
+        barrier
     }
 }

@@ -1,13 +1,13 @@
 //! The DO-loops of a file.
 ghost use Rattle.std.specs.Prelude.{◌≡◌, ◌+◌, ◌^◌, ◌<◌, ◌∷◌, [], ◌++◌, length, List, IfOk, OnOk};
 ghost use Rattle.f77_ast.specs.Loop.{IsNumbered};
-ghost use Rattle.f77_meaning.specs.Loops.{loops_in, loops_of, statements_of};
+ghost use Rattle.f77_meaning.specs.Loops.{loops_in, loops_of, statement_count};
 ghost use Rattle.f77_loops.specs.Ranges.{loop_with};
-ghost use Rattle.f77_loops.specs.Turn.{AreRangesOf, IsDone};
+ghost use Rattle.f77_loops.specs.Adding.{AreRangesOf, IsAdded};
 ghost use Rattle.f77_ast.specs.declared.program.Listed.{Listed};
 
 use crate::ranges::{Range, ranges_of};
-use crate::statements::terminal_of;
+use crate::statements::terminal_label;
 use f77_ast::program::{Listed, Listing, Loop, Loops, Units};
 use hyb_base::list::List;
 use hyb_base::no_memory::NoMemory;
@@ -18,21 +18,28 @@ use std::alloc::Global;
 /// Units are counted from 0, DO statements and the statements of the file from 1. The range of a DO statement is from
 /// the next statement to the first executable statement behind it in its unit that has the label that it names; where
 /// there is none, `last` is the number of the statement behind the unit's last one. It is closed where its range holds
-/// no READ, PRINT, WRITE, STOP and RETURN. The units may be any, also those of a file that is refused.
+/// no READ, PRINT, WRITE, STOP or RETURN; calls and jumps aren't looked at yet. The units may be any, also those of a
+/// file that is refused.
 ///
 /// `NoMemory` where no memory was to be had, and never else. The cost grows with the number of statements.
 pub fn loops(alloc: Global, units: &Units) -> Result<Loops, NoMemory>
     requires few_units { length units.now < 2 ^ 32 }
-    requires few_statements { statements_of units.now + 1 < 2 ^ 32 }
+    requires few_statements { statement_count units.now + 1 < 2 ^ 32 }
     ensures all { IfOk result (λ loops. loops ≡ loops_of units.now) }
     ensures numbered { IfOk result (λ loops. IsNumbered loops) }
 {
     let mut loops = List::new(alloc);
     let mut number: u32 = 1;
     let all = units.as_slice();
-    for (unit, entered) in all.iter().enumerate() {
-        add_loops(alloc, unit as u32, number, &entered.listing, &mut loops)?;
-        number += entered.listing.len() as u32;
+    for (unit, program_unit) in all.iter().enumerate() {
+        add_loops(
+            alloc,
+            unit as u32,
+            number,
+            &program_unit.listing,
+            &mut loops,
+        )?;
+        number += program_unit.listing.len() as u32;
     }
     Ok(loops)
 }
@@ -70,10 +77,10 @@ fn add_statement(
 ) -> Result<(), NoMemory>
     requires room { number + 1 < 2 ^ 32 }
     requires before { length loops.old < number }
-    ensures added { OnOk result ((following : List Listed) → AreRangesOf number (listed.now ∷ following) ranges.old.items → IsDone unit number listed.now following loops.old ranges.new.items loops.new) }
+    ensures added { OnOk result ((following : List Listed) → AreRangesOf number (listed.now ∷ following) ranges.old.items → IsAdded unit number listed.now following loops.old ranges.new.items loops.new) }
     ensures few { OnOk result (length loops.new < number + 1) }
 {
-    match terminal_of(&listed.stmt) {
+    match terminal_label(&listed.stmt) {
         None => Ok(()),
         Some(_label) => match ranges.pop() {
             None => Ok(()),

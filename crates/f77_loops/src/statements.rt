@@ -1,14 +1,14 @@
 //! What the loops of a file ask of a single statement.
 ghost use Rattle.std.specs.Prelude.{◌≡◌};
-ghost use Rattle.f77_meaning.specs.Loops.{terminal_of, may_be_closed};
+ghost use Rattle.f77_meaning.specs.Loops.{terminal_label, is_barrier};
 ghost use Rattle.f77_meaning.specs.Process.{is_executable};
 
 use f77_ast::stmt::{Label, Stmt};
 
 /// The label of the terminal statement that a DO statement names; none of any other statement
 /// (ANSI X3.9-1978, section 11.10).
-pub fn terminal_of(stmt: &Stmt) -> Option<Label>
-    ensures { result ≡ terminal_of stmt.now }
+pub fn terminal_label(stmt: &Stmt) -> Option<Label>
+    ensures { result ≡ terminal_label stmt.now }
 {
     match stmt {
         Stmt::Do { terminal, .. } => Some(*terminal),
@@ -17,7 +17,7 @@ pub fn terminal_of(stmt: &Stmt) -> Option<Label>
 }
 
 /// Whether a statement is executable: all but PROGRAM, SUBROUTINE, FUNCTION, the specification statements and DATA
-/// (section 7).
+/// (ANSI X3.9-1978, section 7).
 pub fn is_executable(stmt: &Stmt) -> bool
     ensures { result ≡ is_executable stmt.now }
 {
@@ -37,15 +37,15 @@ pub fn is_executable(stmt: &Stmt) -> bool
     }
 }
 
-/// Whether a loop may be closed with this statement in its range: it is no READ, PRINT, WRITE, STOP or RETURN.
-pub fn may_be_closed(stmt: &Stmt) -> bool
-    ensures { result ≡ may_be_closed stmt.now }
+/// Whether a statement is a barrier, so that no loop with it in its range is closed: READ, PRINT, WRITE, STOP and RETURN.
+pub fn is_barrier(stmt: &Stmt) -> bool
+    ensures { result ≡ is_barrier stmt.now }
 {
     match stmt {
-        Stmt::Read(_) => false,
-        Stmt::Print(_) => false,
-        Stmt::Stop(_) => false,
-        Stmt::Return => false,
-        _ => true,
+        Stmt::Read(_) => true,
+        Stmt::Print(_) => true,
+        Stmt::Stop(_) => true,
+        Stmt::Return => true,
+        _ => false,
     }
 }

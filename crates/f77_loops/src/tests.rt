@@ -1,6 +1,6 @@
 //! What no clause says: files with their loops worked out by hand, and the call with ample memory.
 ghost use Rattle.std.specs.Prelude.{◌≡◌, ◌+◌, ◌^◌, ◌<◌, IsTrue};
-ghost use Rattle.f77_meaning.specs.Loops.{statements_of};
+ghost use Rattle.f77_meaning.specs.Loops.{statement_count};
 
 use crate::loops::loops;
 use f77_ast::code::Code;
@@ -22,7 +22,7 @@ fn a_do(terminal: Label) -> Result<Stmt, Fail> {
             variable: Name::new(b"I").ok_or("not a name")?,
             first: Expr::Int(1),
             last: Expr::Int(2),
-            step: None,
+            increment: None,
         },
     })
 }
@@ -91,7 +91,7 @@ fn a_file(alloc: Global, words: &[u8]) -> Result<Units, Fail> {
 
 /// Whether the statements of a file can be counted.
 fn has_few_statements(units: &Units) -> bool
-    ensures { IsTrue result → statements_of units.now + 1 < 2 ^ 32 }
+    ensures { IsTrue result → statement_count units.now + 1 < 2 ^ 32 }
 {
     let all = units.as_slice();
     let mut count: usize = 0;

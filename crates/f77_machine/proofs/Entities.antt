@@ -3,7 +3,7 @@ use Rattle.std.proofs.Common.{◌≡◌, ◌≤◌, ℤ, List, [], ◌∷◌, le
 use Rattle.std.specs.Option.{option_map}
 use Rattle.f77_ast.specs.declared.program.Entity.{Entity}
 use Rattle.f77_ast.specs.declared.expr.Expr.{Expr}
-use Rattle.f77_ast.specs.declared.refusal.Fault.TheVariants.{Subscript}
+use Rattle.f77_ast.specs.declared.fault.Fault.TheVariants.{Subscript}
 use Rattle.f77_meaning.specs.Demand.{Evaluation, fails, located}
 
 -- no reference with two subscripts or more has a meaning yet

@@ -3,8 +3,8 @@ use Rattle.std.proofs.Common.{◌≡◌, ℕ, suc, ◌+◌, ◌-◌, ◌<◌, �
 use Rattle.std.specs.Prelude.{nat_le}
 use Rattle.hyb_base.specs.Decimal.{decimal_of, IsTextOf}
 use Rattle.hyb_base.proofs.Decimals.{reads_back}
-use Rattle.f77_meaning.specs.Demand.{Demand, and_then, taken}
-use Rattle.f77_meaning.specs.Print.{line_limit, units_from, with_value}
+use Rattle.f77_meaning.specs.Demand.{Demand, and_then, unit_value}
+use Rattle.f77_meaning.specs.Print.{line_limit, after_units, with_value}
 use Rattle.f77_machine.specs.Line.{IsPastLimit}
 
 -- the text of a number isn't empty
@@ -27,16 +27,16 @@ grown_by old new z f e within =
         by false e = absurd (h (grind (arith, e)))
 
 -- of the units that are left, the first goes into the line, and then the others
-pub units_go_on : (address place count : ℕ) (line : List ℕ) (left : List ℤ) (d : Demand (List ℕ)) → place < count → d ≡ with_value line (taken (address + place) left) → units_from (address + place) (count - place) line left ≡ and_then d (λ more rest. units_from (address + (place + 1)) (count - (place + 1)) more rest)
+pub units_go_on : (address place count : ℕ) (line : List ℕ) (left : List ℤ) (d : Demand (List ℕ)) → place < count → d ≡ with_value line (unit_value (address + place) left) → after_units (address + place) (count - place) line left ≡ and_then d (λ more rest. after_units (address + (place + 1)) (count - (place + 1)) more rest)
 units_go_on address place count line left d h e =
     let fewer : count - place ≡ suc (count - (place + 1)) = omega (arith, h) in
     let next : address + place + 1 ≡ address + (place + 1) = omega arith in
-    ap (λ n. units_from (address + place) n line left) fewer
-    ∙ ap (λ a. and_then (with_value line (taken (address + place) left)) (λ more rest. units_from a (count - (place + 1)) more rest)) next
-    ∙ ap (λ x. and_then x (λ more rest. units_from (address + (place + 1)) (count - (place + 1)) more rest)) (sym e)
+    ap (λ n. after_units (address + place) n line left) fewer
+    ∙ ap (λ a. and_then (with_value line (unit_value (address + place) left)) (λ more rest. after_units a (count - (place + 1)) more rest)) next
+    ∙ ap (λ x. and_then x (λ more rest. after_units (address + (place + 1)) (count - (place + 1)) more rest)) (sym e)
 
 -- no unit is left
-pub units_end : (address place count : ℕ) (line : List ℕ) (left : List ℤ) → count ≤ place → units_from (address + place) (count - place) line left ≡ units_from (address + place) 0 line left
+pub units_end : (address place count : ℕ) (line : List ℕ) (left : List ℤ) → count ≤ place → after_units (address + place) (count - place) line left ≡ after_units (address + place) 0 line left
 units_end address place count line left h =
     let none : count - place ≡ 0 = omega (arith, h) in
-    ap (λ n. units_from (address + place) n line left) none
+    ap (λ n. after_units (address + place) n line left) none

@@ -1,7 +1,7 @@
 -- Active loops, as the definitions have them.
 use Rattle.std.specs.Prelude.{◌≡◌, ℕ, List, [], ◌∷◌, ◌++◌, map, reverse}
 use Rattle.f77_meaning.specs.Process as meaning
-use Rattle.f77_meaning.specs.Sound.{CountsOn}
+use Rattle.f77_meaning.specs.Sound.{NumbersFit}
 use Rattle.f77_machine.specs.declared.active.ActiveLoop.{ActiveLoop}
 
 abbrev pub active_of : ActiveLoop → meaning.ActiveLoop
@@ -21,5 +21,5 @@ abbrev pub actives_of : List ActiveLoop → List meaning.ActiveLoop
 actives_of loops = reverse (map active_of loops)
 
 -- of the innermost one an iteration is left, and its numbers are in range; its variable is a unit of storage of so many
-abbrev pub InnermostCountsOn : (total : ℕ) → List ActiveLoop → Type 0
-InnermostCountsOn total loops = (outer : List ActiveLoop) (innermost : ActiveLoop) → loops ≡ outer ++ innermost ∷ [] → CountsOn total (active_of innermost)
+abbrev pub InnermostNumbersFit : (total : ℕ) → List ActiveLoop → Type 0
+InnermostNumbersFit total loops = (outer : List ActiveLoop) (innermost : ActiveLoop) → loops ≡ outer ++ innermost ∷ [] → NumbersFit total (active_of innermost)

@@ -1,7 +1,7 @@
 -- The two kinds of chains that an accumulation may be.
 use Rattle.std.specs.Prelude.{ℤ, Bool, List}
 use Rattle.f77_ast.specs.declared.expr.Op.{Op}
-use Rattle.f77_meaning.specs.Assign.{Held, joined_by, stands_in_sum, stands_in_product}
+use Rattle.f77_meaning.specs.Assign.{Accumulation, joined_by, stands_in_sum, stands_in_product}
 use Rattle.f77_meaning.specs.Demand.{Demand, Evaluation, gives, and_then}
 use Rattle.f77_meaning.specs.Assign as meaning
 use Rattle.f77_machine.specs.declared.chain.Operation.{Operation}
@@ -18,8 +18,8 @@ stands_in Sum = stands_in_sum
 stands_in Product = stands_in_product
 
 -- the right side of an accumulation, where v has this value
-abbrev pub held_at : (v : ℤ) → List ℤ → Held → Demand ℤ
-held_at v answers held = and_then (held answers) (λ value rest. gives (value v) rest)
+abbrev pub accumulation_at : (v : ℤ) → List ℤ → Accumulation → Demand ℤ
+accumulation_at v answers held = and_then (held answers) (λ value rest. gives (value v) rest)
 
 -- a value, and an operand to its right
 abbrev pub with_operand : Op → Evaluation → ℤ → List ℤ → Demand ℤ

@@ -1,5 +1,5 @@
 pub mod Active
-pub mod Answer
+pub mod Evaluated
 pub mod Begun
 pub mod Chain
 pub mod Input

@@ -5,7 +5,7 @@ use Rattle.f77_ast.specs.declared.stmt.Stmt.{Stmt, Do}
 use Rattle.f77_machine.specs.Active.{actives_of}
 use Rattle.f77_machine.specs.Reads.{HasRoom}
 use Rattle.f77_machine.specs.declared.process.Process.{Process}
-use Rattle.f77_meaning.specs.Process.{listed_at, line_of}
+use Rattle.f77_meaning.specs.Process.{listed_at, source_line}
 use Rattle.f77_meaning.specs.Process as meaning
 use Rattle.f77_meaning.specs.Sound.{IsOf}
 
@@ -15,7 +15,7 @@ process_of p = record { unit = p.unit; at = p.at; answers = p.answers.items; act
 
 -- a process keeps the initial line of its statement
 abbrev pub HasLine : Program → Process → Type 0
-HasLine program p = p.line ≡ line_of (listed_at program (process_of p))
+HasLine program p = p.line ≡ source_line (listed_at program (process_of p))
 
 -- there is room for one active loop more where a statement may begin one
 abbrev pub HasLoopRoom : Stmt → Process → Type 0

@@ -14,7 +14,7 @@ use Rattle.f77_ast.specs.declared.stmt.Item.{Item, Plain}
 use Rattle.f77_ast.specs.declared.stmt.LoopControl.{LoopControl}
 use Rattle.f77_ast.specs.declared.stmt.Stmt.{Stmt, Assign, Do, Print}
 use Rattle.f77_meaning.specs.Arrays.{array_named}
-use Rattle.f77_meaning.specs.Storage.{units_of}
+use Rattle.f77_meaning.specs.Storage.{storage_units_of}
 
 -- one level: each reference reads one unit, after what its subscripts read
 abbrev pub reads_step : Expr-F ℕ (Unit {0}) ℕ → ℕ
@@ -50,7 +50,7 @@ most_elements = 5001
 
 -- the same of an item: of an array, or else of an expression
 abbrev pub array_or_value_reads : Option Entity → ℕ → ℕ
-array_or_value_reads (Some array) reads = min (units_of array) most_elements
+array_or_value_reads (Some array) reads = min (storage_units_of array) most_elements
 array_or_value_reads None reads = reads
 
 abbrev pub item_reads : Layout → (unit : ℕ) → Item → ℕ
@@ -62,13 +62,13 @@ items_reads layout unit [] = 0
 items_reads layout unit (item ∷ items) = item_reads layout unit item + items_reads layout unit items
 
 -- the same of a parameter of a DO statement that may be left out
-abbrev pub step_reads : Option Expr → ℕ
-step_reads None = 0
-step_reads (Some step) = reads_in step
+abbrev pub increment_reads : Option Expr → ℕ
+increment_reads None = 0
+increment_reads (Some step) = reads_in step
 
 -- the same of the control of a DO statement
 abbrev pub control_reads : LoopControl → ℕ
-control_reads control = reads_in control.first + (reads_in control.last + step_reads control.step)
+control_reads control = reads_in control.first + (reads_in control.last + increment_reads control.increment)
 
 -- the same of a statement of a unit
 abbrev pub statement_reads : Layout → (unit : ℕ) → Stmt → ℕ

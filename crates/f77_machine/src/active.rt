@@ -2,7 +2,7 @@
 ghost use Rattle.std.specs.Prelude.{◌≡◌, ◌+◌, ◌<◌, ◌≤◌, ◌^◌, IsTrue, suc};
 ghost use Rattle.f77_meaning.specs.Do.{active_from, has_64_bits, next_value, value_after};
 ghost use Rattle.f77_machine.specs.Active.{active_of};
-ghost use Rattle.f77_machine.specs.Begun.{begun_of};
+ghost use Rattle.f77_machine.specs.Begun.{as_begun};
 
 use crate::begin::Begun;
 use f77_ast::program::Loop;
@@ -33,7 +33,7 @@ impl ActiveLoop {
     /// The loop of a DO statement at a place of a unit, which begins: its range goes on behind the DO statement.
     pub fn new(at: usize, found: Loop, begun: Begun) -> ActiveLoop
         requires { at < 2 ^ 32 }
-        ensures value { active_of result ≡ active_from at found (begun_of begun) }
+        ensures value { active_of result ≡ active_from at found (as_begun begun) }
         ensures after { result.last + 1 < 2 ^ 64 }
     {
         let from = at + 1;

@@ -1,16 +1,16 @@
 //! Assignment (ANSI X3.9-1978, section 10.1): which unit takes which value.
 ghost use Rattle.std.specs.Prelude.{◌≡◌, ◌+◌, ◌<◌, ℤ, IsTrue, Some, length, pos};
 ghost use Rattle.std.specs.Option.{option_map};
-ghost use Rattle.f77_meaning.specs.Assign.{Held, accumulated, plainly, written_of, held_of};
+ghost use Rattle.f77_meaning.specs.Assign.{Accumulation, accumulated, plainly, written_of, accumulation_of};
 ghost use Rattle.f77_meaning.specs.Demand.{demand_of};
 ghost use Rattle.f77_meaning.specs.Storage.{IsStorage};
-ghost use Rattle.f77_machine.specs.Answer.{as_demand, Asks, LiesFirst};
-ghost use Rattle.f77_machine.specs.Chain.{held_at};
+ghost use Rattle.f77_machine.specs.Evaluated.{as_demand, Asks, GivesWriteBelow};
+ghost use Rattle.f77_machine.specs.Chain.{accumulation_at};
 ghost use Rattle.f77_machine.specs.Reads.{reads_in, subscript_reads};
 
-use crate::answer::Answer;
 use crate::chain::held;
 use crate::demand::{demand, location};
+use crate::evaluated::Evaluated;
 use f77_ast::expr::{Expr, Ref};
 use f77_ast::program::Layout;
 
@@ -22,19 +22,19 @@ pub fn assigned<'a>(
     target: &Ref,
     value: &Expr,
     answers: &'a [i64],
-) -> Answer<'a, (u32, i64)>
+) -> Evaluated<'a, (u32, i64)>
     requires storage { IsStorage layout.now }
     ensures value { as_demand result ≡ written_of layout.now unit target.now value.now answers.now }
     ensures asks { Asks (length layout.now.first) (subscript_reads target.now + reads_in value.now) (length answers.now) result }
-    ensures lies { LiesFirst (length layout.now.first) result }
+    ensures lies { GivesWriteBelow (length layout.now.first) result }
 {
     match location(layout, unit, target, answers) {
-        Answer::Gives(address, rest) => match held(layout, unit, target, value, 0, rest) {
+        Evaluated::Gives(address, rest) => match held(layout, unit, target, value, 0, rest) {
             Some(first) => accumulated(layout, unit, target, value, address, first, rest),
             None => plain(layout, unit, value, address, rest),
         },
-        Answer::Wants(address) => Answer::Wants(address),
-        Answer::Fails(fault) => Answer::Fails(fault),
+        Evaluated::Wants(address) => Evaluated::Wants(address),
+        Evaluated::Fails(fault) => Evaluated::Fails(fault),
     }
 }
 
@@ -45,50 +45,50 @@ fn plain<'a>(
     value: &Expr,
     address: u32,
     rest: &'a [i64],
-) -> Answer<'a, (u32, i64)>
+) -> Evaluated<'a, (u32, i64)>
     requires storage { IsStorage layout.now }
     requires lies { address < length layout.now.first }
     ensures value { as_demand result ≡ plainly address (demand_of layout.now unit value.now) rest.now }
     ensures asks { Asks (length layout.now.first) (reads_in value.now) (length rest.now) result }
-    ensures lies { LiesFirst (length layout.now.first) result }
+    ensures lies { GivesWriteBelow (length layout.now.first) result }
 {
     match demand(layout, unit, value, rest) {
-        Answer::Gives(v, more) => Answer::Gives((address, v), more),
-        Answer::Wants(wanted) => Answer::Wants(wanted),
-        Answer::Fails(fault) => Answer::Fails(fault),
+        Evaluated::Gives(v, more) => Evaluated::Gives((address, v), more),
+        Evaluated::Wants(wanted) => Evaluated::Wants(wanted),
+        Evaluated::Fails(fault) => Evaluated::Fails(fault),
     }
 }
 
-/// The unit and the value of an accumulation of which `first` was read: the unit itself is read next, and then it
-/// takes the value of the right side with what was read.
+/// The unit and the value of an accumulation. `first` is what the right side comes to with 0 for the unit's own value,
+/// which tells whether all else was read; then the unit itself is read, and takes the value of the right side.
 fn accumulated<'a>(
     layout: &Layout,
     unit: u32,
     target: &Ref,
     value: &Expr,
     address: u32,
-    first: Answer<'a, i64>,
+    first: Evaluated<'a, i64>,
     rest: &'a [i64],
-) -> Answer<'a, (u32, i64)>
+) -> Evaluated<'a, (u32, i64)>
     requires storage { IsStorage layout.now }
     requires lies { address < length layout.now.first }
-    requires first { Some (as_demand first) ≡ option_map (held_at (pos 0) rest.now) (held_of layout.now unit target.now value.now) }
+    requires first { Some (as_demand first) ≡ option_map (accumulation_at (pos 0) rest.now) (accumulation_of layout.now unit target.now value.now) }
     requires asked { Asks (length layout.now.first) (reads_in value.now) (1 + length rest.now) first }
-    ensures value { (h : Held) → held_of layout.now unit target.now value.now ≡ Some h → as_demand result ≡ accumulated address h rest.now }
+    ensures value { (h : Accumulation) → accumulation_of layout.now unit target.now value.now ≡ Some h → as_demand result ≡ accumulated address h rest.now }
     ensures asks { Asks (length layout.now.first) (reads_in value.now) (length rest.now) result }
-    ensures lies { LiesFirst (length layout.now.first) result }
+    ensures lies { GivesWriteBelow (length layout.now.first) result }
 {
     match first {
-        Answer::Gives(_unread, more) => match more.split_first() {
+        Evaluated::Gives(_unread, more) => match more.split_first() {
             Some((x, left)) => match held(layout, unit, target, value, *x, rest) {
-                Some(Answer::Gives(v, _unused)) => Answer::Gives((address, v), left),
-                Some(Answer::Wants(wanted)) => Answer::Wants(wanted),
-                Some(Answer::Fails(fault)) => Answer::Fails(fault),
-                None => Answer::Wants(address),
+                Some(Evaluated::Gives(v, _unused)) => Evaluated::Gives((address, v), left),
+                Some(Evaluated::Wants(wanted)) => Evaluated::Wants(wanted),
+                Some(Evaluated::Fails(fault)) => Evaluated::Fails(fault),
+                None => Evaluated::Wants(address),
             },
-            None => Answer::Wants(address),
+            None => Evaluated::Wants(address),
         },
-        Answer::Wants(wanted) => Answer::Wants(wanted),
-        Answer::Fails(fault) => Answer::Fails(fault),
+        Evaluated::Wants(wanted) => Evaluated::Wants(wanted),
+        Evaluated::Fails(fault) => Evaluated::Fails(fault),
     }
 }

@@ -4,18 +4,18 @@ ghost use Rattle.f77_meaning.specs.Demand.{and_then, located};
 ghost use Rattle.f77_meaning.specs.Do.{begun_of, begun_with, increment_of};
 ghost use Rattle.f77_meaning.specs.Storage.{IsStorage};
 ghost use Rattle.f77_ast.specs.Entity.{entity_in};
-ghost use Rattle.f77_machine.specs.Answer.{as_demand, Asks, Lies};
-ghost use Rattle.f77_machine.specs.Begun.{as_begun, as_parameters, LiesAtVariable};
-ghost use Rattle.f77_machine.specs.Reads.{reads_in, step_reads, control_reads};
+ghost use Rattle.f77_machine.specs.Evaluated.{as_demand, Asks, GivesAddressBelow};
+ghost use Rattle.f77_machine.specs.Begun.{begun_demand, as_parameters, GivesVariableBelow};
+ghost use Rattle.f77_machine.specs.Reads.{reads_in, increment_reads, control_reads};
 
-use crate::answer::Answer;
-use crate::count::{Parameters, trips};
+use crate::count::{Parameters, iteration_count};
 use crate::demand::demand;
+use crate::evaluated::Evaluated;
 use crate::place::{entity, variable};
 use f77_ast::expr::Expr;
+use f77_ast::fault::Fault;
 use f77_ast::name::Name;
 use f77_ast::program::Layout;
-use f77_ast::refusal::Fault;
 use f77_ast::stmt::LoopControl;
 
 /// A DO statement that begins.
@@ -33,22 +33,27 @@ pub struct Begun {
 
 /// What a DO statement comes to: its parameters are read from the left, and then its variable's unit is the one to
 /// write. An incrementation parameter of 0 is a fault, and so is a count, or a value at the end of the loop, that
-/// hasn't 64 bits.
+/// isn't from -2^63 to 2^63 - 1.
 pub fn begin<'a>(
     layout: &Layout,
     unit: u32,
     control: &LoopControl,
     answers: &'a [i64],
-) -> Answer<'a, Begun>
+) -> Evaluated<'a, Begun>
     requires storage { IsStorage layout.now }
-    ensures value { as_begun result ≡ begun_of layout.now unit control.now answers.now }
+    ensures value { begun_demand result ≡ begun_of layout.now unit control.now answers.now }
     ensures asks { Asks (length layout.now.first) (control_reads control.now) (length answers.now) result }
-    ensures lies { LiesAtVariable (length layout.now.first) result }
+    ensures lies { GivesVariableBelow (length layout.now.first) result }
 {
     match demand(layout, unit, &control.first, answers) {
-        Answer::Gives(first, rest) => match demand(layout, unit, &control.last, rest) {
-            Answer::Gives(last, more) => match increment(layout, unit, &control.step, more) {
-                Answer::Gives(increment, left) => {
+        Evaluated::Gives(first, rest) => match demand(layout, unit, &control.last, rest) {
+            Evaluated::Gives(last, more) => match increment(
+                layout,
+                unit,
+                &control.increment,
+                more,
+            ) {
+                Evaluated::Gives(increment, left) => {
                     let parameters = Parameters {
                         first,
                         last,
@@ -56,14 +61,14 @@ pub fn begin<'a>(
                     };
                     begin_by(layout, unit, &control.variable, parameters, left)
                 }
-                Answer::Wants(address) => Answer::Wants(address),
-                Answer::Fails(fault) => Answer::Fails(fault),
+                Evaluated::Wants(address) => Evaluated::Wants(address),
+                Evaluated::Fails(fault) => Evaluated::Fails(fault),
             },
-            Answer::Wants(address) => Answer::Wants(address),
-            Answer::Fails(fault) => Answer::Fails(fault),
+            Evaluated::Wants(address) => Evaluated::Wants(address),
+            Evaluated::Fails(fault) => Evaluated::Fails(fault),
         },
-        Answer::Wants(address) => Answer::Wants(address),
-        Answer::Fails(fault) => Answer::Fails(fault),
+        Evaluated::Wants(address) => Evaluated::Wants(address),
+        Evaluated::Fails(fault) => Evaluated::Fails(fault),
     }
 }
 
@@ -71,16 +76,16 @@ pub fn begin<'a>(
 fn increment<'a>(
     layout: &Layout,
     unit: u32,
-    step: &Option<Expr>,
+    increment: &Option<Expr>,
     answers: &'a [i64],
-) -> Answer<'a, i64>
+) -> Evaluated<'a, i64>
     requires storage { IsStorage layout.now }
-    ensures value { as_demand result ≡ increment_of layout.now unit step.now answers.now }
-    ensures asks { Asks (length layout.now.first) (step_reads step.now) (length answers.now) result }
+    ensures value { as_demand result ≡ increment_of layout.now unit increment.now answers.now }
+    ensures asks { Asks (length layout.now.first) (increment_reads increment.now) (length answers.now) result }
 {
-    match step {
-        None => Answer::Gives(1, answers),
-        Some(step) => demand(layout, unit, step, answers),
+    match increment {
+        None => Evaluated::Gives(1, answers),
+        Some(increment) => demand(layout, unit, increment, answers),
     }
 }
 
@@ -91,33 +96,33 @@ fn begin_by<'a>(
     name: &Name,
     parameters: Parameters,
     rest: &'a [i64],
-) -> Answer<'a, Begun>
+) -> Evaluated<'a, Begun>
     requires storage { IsStorage layout.now }
-    ensures value { as_begun result
+    ensures value { begun_demand result
         ≡ and_then (located (entity_in layout.now.entities unit name.now) None rest.now) (λ variable more. begun_with variable (as_parameters parameters) more) }
     ensures asks { Asks (length layout.now.first) 0 (length rest.now) result }
-    ensures lies { LiesAtVariable (length layout.now.first) result }
+    ensures lies { GivesVariableBelow (length layout.now.first) result }
 {
     match entity(layout, unit, name) {
-        None => Answer::Fails(Fault::Subscript),
+        None => Evaluated::Fails(Fault::Subscript),
         Some(entity) => match variable(entity, rest) {
-            Answer::Gives(address, more) => begin_at(address, parameters, more),
-            Answer::Wants(address) => Answer::Wants(address),
-            Answer::Fails(fault) => Answer::Fails(fault),
+            Evaluated::Gives(address, more) => begin_at(address, parameters, more),
+            Evaluated::Wants(address) => Evaluated::Wants(address),
+            Evaluated::Fails(fault) => Evaluated::Fails(fault),
         },
     }
 }
 
 /// The same, where the variable's address is known.
-fn begin_at<'a>(variable: u32, parameters: Parameters, rest: &'a [i64]) -> Answer<'a, Begun>
-    ensures value { as_begun result ≡ begun_with variable (as_parameters parameters) rest.now }
+fn begin_at<'a>(variable: u32, parameters: Parameters, rest: &'a [i64]) -> Evaluated<'a, Begun>
+    ensures value { begun_demand result ≡ begun_with variable (as_parameters parameters) rest.now }
     ensures asks { Asks 0 0 (length rest.now) result }
-    ensures lies { LiesAtVariable (variable + 1) result }
+    ensures lies { GivesVariableBelow (variable + 1) result }
 {
     if parameters.increment == 0 {
-        return Answer::Fails(Fault::ZeroIncrement);
+        return Evaluated::Fails(Fault::ZeroIncrement);
     }
-    match trips(parameters) {
+    match iteration_count(parameters) {
         Some(count) => {
             let begun = Begun {
                 variable,
@@ -125,8 +130,8 @@ fn begin_at<'a>(variable: u32, parameters: Parameters, rest: &'a [i64]) -> Answe
                 increment: parameters.increment,
                 count,
             };
-            Answer::Gives(begun, rest)
+            Evaluated::Gives(begun, rest)
         }
-        None => Answer::Fails(Fault::DoRange),
+        None => Evaluated::Fails(Fault::DoRange),
     }
 }

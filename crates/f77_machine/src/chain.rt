@@ -1,15 +1,15 @@
-//! The right side of an accumulation: a chain of operators from the left side on, or an operator before it.
+//! The right side of an accumulation to `v`: a chain of operators that begins with `v`, or `e + v` or `e * v`.
 ghost use Rattle.std.specs.Prelude.{◌≡◌, ◌+◌, ◌≤◌, ℕ, suc, IsTrue, IfSome, length};
 ghost use Rattle.std.specs.Option.{option_map};
-ghost use Rattle.f77_meaning.specs.Assign.{stands_in_sum, stands_in_product, is_commutative, is_v, joined_by, held_last, chain_of, last_by, held_of, operation_of, operators_at_left};
+ghost use Rattle.f77_meaning.specs.Assign.{stands_in_sum, stands_in_product, is_commutative, is_v, joined_by, accumulation_last, chain_of, last_by, accumulation_of, operation_of, operators_at_left};
 ghost use Rattle.f77_meaning.specs.Demand.{and_then, demand_of};
 ghost use Rattle.f77_meaning.specs.Storage.{IsStorage};
-ghost use Rattle.f77_machine.specs.Answer.{as_demand, Asks};
-ghost use Rattle.f77_machine.specs.Chain.{as_operation, stands_in, held_at, with_operand};
+ghost use Rattle.f77_machine.specs.Evaluated.{as_demand, Asks};
+ghost use Rattle.f77_machine.specs.Chain.{as_operation, stands_in, accumulation_at, with_operand};
 ghost use Rattle.f77_machine.specs.Reads.{reads_in};
 
-use crate::answer::Answer;
 use crate::demand::demand;
+use crate::evaluated::Evaluated;
 use f77_ast::expr::{Expr, Op, Ref};
 use f77_ast::program::Layout;
 use f77_trees::same::same_ref;
@@ -110,9 +110,9 @@ pub fn held<'a>(
     expr: &Expr,
     x: i64,
     answers: &'a [i64],
-) -> Option<Answer<'a, i64>>
+) -> Option<Evaluated<'a, i64>>
     requires storage { IsStorage layout.now }
-    ensures value { option_map as_demand result ≡ option_map (held_at x answers.now) (held_of layout.now unit v.now expr.now) }
+    ensures value { option_map as_demand result ≡ option_map (accumulation_at x answers.now) (accumulation_of layout.now unit v.now expr.now) }
     ensures asks { IfSome result (Asks (length layout.now.first) (reads_in expr.now) (1 + length answers.now)) }
 {
     match chained(layout, unit, v, Chain::Sum, expr, x, answers) {
@@ -134,9 +134,9 @@ fn chained<'a>(
     expr: &Expr,
     x: i64,
     answers: &'a [i64],
-) -> Option<Answer<'a, i64>>
+) -> Option<Evaluated<'a, i64>>
     requires storage { IsStorage layout.now }
-    ensures value { option_map as_demand result ≡ option_map (held_at x answers.now) (chain_of layout.now unit v.now (stands_in which) expr.now) }
+    ensures value { option_map as_demand result ≡ option_map (accumulation_at x answers.now) (chain_of layout.now unit v.now (stands_in which) expr.now) }
     ensures asks { IfSome result (Asks (length layout.now.first) (reads_in expr.now) (1 + length answers.now)) }
 {
     let Operation { op, left, right } = outermost(expr)?;
@@ -155,18 +155,18 @@ fn longer<'a>(
     layout: &Layout,
     unit: u32,
     op: Op,
-    inner: Option<Answer<'a, i64>>,
+    inner: Option<Evaluated<'a, i64>>,
     right: &Expr,
-) -> Option<Answer<'a, i64>>
+) -> Option<Evaluated<'a, i64>>
     requires storage { IsStorage layout.now }
     ensures value { option_map as_demand result ≡ option_map (λ d. and_then d (with_operand op (demand_of layout.now unit right.now))) (option_map as_demand inner.entry) }
     ensures asks { (need known : ℕ) → IfSome inner.entry (Asks (length layout.now.first) need known)
         → IfSome result (Asks (length layout.now.first) (need + reads_in right.now) known) }
 {
     match inner? {
-        Answer::Gives(z, rest) => Some(before(layout, unit, op, z, right, rest)),
-        Answer::Wants(address) => Some(Answer::Wants(address)),
-        Answer::Fails(fault) => Some(Answer::Fails(fault)),
+        Evaluated::Gives(z, rest) => Some(before(layout, unit, op, z, right, rest)),
+        Evaluated::Wants(address) => Some(Evaluated::Wants(address)),
+        Evaluated::Fails(fault) => Some(Evaluated::Fails(fault)),
     }
 }
 
@@ -178,9 +178,9 @@ fn last<'a>(
     expr: &Expr,
     x: i64,
     answers: &'a [i64],
-) -> Option<Answer<'a, i64>>
+) -> Option<Evaluated<'a, i64>>
     requires storage { IsStorage layout.now }
-    ensures value { option_map as_demand result ≡ option_map (held_at x answers.now) (last_by layout.now unit v.now (operation_of expr.now)) }
+    ensures value { option_map as_demand result ≡ option_map (accumulation_at x answers.now) (last_by layout.now unit v.now (operation_of expr.now)) }
     ensures asks { IfSome result (Asks (length layout.now.first) (reads_in expr.now) (1 + length answers.now)) }
 {
     let Operation { op, left, right } = outermost(expr)?;
@@ -199,15 +199,15 @@ fn before<'a>(
     x: i64,
     right: &Expr,
     answers: &'a [i64],
-) -> Answer<'a, i64>
+) -> Evaluated<'a, i64>
     requires storage { IsStorage layout.now }
     ensures value { as_demand result ≡ with_operand op (demand_of layout.now unit right.now) x answers.now }
     ensures asks { Asks (length layout.now.first) (reads_in right.now) (length answers.now) result }
 {
     match demand(layout, unit, right, answers) {
-        Answer::Gives(y, rest) => Answer::Gives(joined(op, x, y), rest),
-        Answer::Wants(address) => Answer::Wants(address),
-        Answer::Fails(fault) => Answer::Fails(fault),
+        Evaluated::Gives(y, rest) => Evaluated::Gives(joined(op, x, y), rest),
+        Evaluated::Wants(address) => Evaluated::Wants(address),
+        Evaluated::Fails(fault) => Evaluated::Fails(fault),
     }
 }
 
@@ -219,15 +219,15 @@ fn after<'a>(
     left: &Expr,
     x: i64,
     answers: &'a [i64],
-) -> Answer<'a, i64>
+) -> Evaluated<'a, i64>
     requires storage { IsStorage layout.now }
-    ensures value { as_demand result ≡ held_at x answers.now (held_last op (demand_of layout.now unit left.now)) }
+    ensures value { as_demand result ≡ accumulation_at x answers.now (accumulation_last op (demand_of layout.now unit left.now)) }
     ensures asks { Asks (length layout.now.first) (reads_in left.now) (length answers.now) result }
 {
     match demand(layout, unit, left, answers) {
-        Answer::Gives(y, rest) => Answer::Gives(joined(op, y, x), rest),
-        Answer::Wants(address) => Answer::Wants(address),
-        Answer::Fails(fault) => Answer::Fails(fault),
+        Evaluated::Gives(y, rest) => Evaluated::Gives(joined(op, y, x), rest),
+        Evaluated::Wants(address) => Evaluated::Wants(address),
+        Evaluated::Fails(fault) => Evaluated::Fails(fault),
     }
 }
 

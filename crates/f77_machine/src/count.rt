@@ -15,13 +15,13 @@ pub struct Parameters {
 }
 
 /// The iteration count, MAX(INT((m2 - m1 + m3) / m3), 0). None where it, or the variable's value at the end of the
-/// loop, isn't below 2^63 and from -2^63 on.
-pub fn trips(parameters: Parameters) -> Option<u64>
+/// loop, isn't from -2^63 to 2^63 - 1.
+pub fn iteration_count(parameters: Parameters) -> Option<u64>
     requires { parameters.increment ≢ pos 0 }
     ensures { result ≡ (if is_in_range (as_parameters parameters) then Some (count_of (as_parameters parameters)) else None) }
 {
-    let count = small(quotient(parameters.first, parameters.last, parameters.increment))?;
-    if ends(parameters.first, parameters.increment, count) {
+    let count = count_that_fits(quotient(parameters.first, parameters.last, parameters.increment))?;
+    if end_fits(parameters.first, parameters.increment, count) {
         Some(count)
     } else {
         None
@@ -55,8 +55,8 @@ fn divided(distance: i128, increment: i64) -> i128
     distance / i128::from(increment)
 }
 
-/// A number from 0 on, and 0 for a lesser one. None where it isn't below 2^63.
-fn small(number: i128) -> Option<u64>
+/// A number from 0 on, and 0 for a lesser one. None where it is 2^63 or more.
+fn count_that_fits(number: i128) -> Option<u64>
     ensures { result ≡ (if has_64_bits (pos (at_least_zero number)) then Some (at_least_zero number) else None) }
 {
     if number < 0 {
@@ -69,7 +69,7 @@ fn small(number: i128) -> Option<u64>
 }
 
 /// Whether the value of the variable after so many iterations has 64 bits.
-fn ends(first: i64, increment: i64, count: u64) -> bool
+fn end_fits(first: i64, increment: i64, count: u64) -> bool
     requires { count < 2 ^ 63 }
     ensures { result ≡ has_64_bits (value_after first increment count) }
 {

@@ -2,7 +2,7 @@
 ghost use Rattle.std.specs.Prelude.{◌≤◌, length};
 
 use crate::number::{number, separators, word_length};
-use f77_ast::refusal::Fault;
+use f77_ast::fault::Fault;
 use hyb_base::bytes::Bytes;
 
 /// The bytes of an input, and how far they have been read.
@@ -17,7 +17,7 @@ pub struct Input {
 
 impl Input {
     ghost use Rattle.std.specs.Prelude.{◌≡◌, ◌≢◌, ◌↔◌, ◌⊎◌, [], Err, IfOk, IfErr, OnErr};
-    ghost use Rattle.f77_ast.specs.declared.refusal.Fault.TheVariants.{InputEnd, InputForm};
+    ghost use Rattle.f77_ast.specs.declared.fault.Fault.TheVariants.{InputEnd, InputForm};
     ghost use Rattle.f77_machine.specs.Input.{left_of};
     ghost use Rattle.f77_machine.specs.Number.{IsNumber, number_of, after_separators, word_at, after_word};
 

@@ -1,7 +1,7 @@
 //! The line that PRINT builds (ANSI X3.9-1978, section 12.8; list-directed output, section 13.6, is this project's own).
 ghost use Rattle.std.specs.Prelude.{◌≤◌, vec_capacity};
 
-use f77_ast::refusal::Fault;
+use f77_ast::fault::Fault;
 use hyb_base::decimal::Decimal;
 use hyb_base::no_memory::NoMemory;
 use std::alloc::Global;
@@ -19,7 +19,7 @@ pub struct Line {
 impl Line {
     ghost use Rattle.std.specs.Prelude.{◌≡◌, ◌≤◌, ◌↔◌, [], ◌∷◌, ◌++◌, length, IfOk, IfErr, OnOk, OnErr, IsErr};
     ghost use Rattle.hyb_base.specs.Decimal.{decimal_of};
-    ghost use Rattle.f77_ast.specs.declared.refusal.Fault.TheVariants.{LineLimit};
+    ghost use Rattle.f77_ast.specs.declared.fault.Fault.TheVariants.{LineLimit};
     ghost use Rattle.f77_machine.specs.Line.{text_of, IsPastLimit, logical_text};
 
     /// An empty line.

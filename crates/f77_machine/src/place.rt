@@ -2,15 +2,15 @@
 ghost use Rattle.std.specs.Prelude.{◌≡◌, ◌+◌, ◌<◌, ◌≤◌, ◌^◌, IfSome, length};
 ghost use Rattle.std.specs.Option.{option_copied};
 ghost use Rattle.f77_ast.specs.Entity.{entity_in};
-ghost use Rattle.f77_meaning.specs.Demand.{element_of, offset_of, variable_of};
-ghost use Rattle.f77_meaning.specs.Storage.{IsStorage, LiesIn, start_of, units_of, vector_extent, upper_of};
-ghost use Rattle.f77_machine.specs.Answer.{as_demand, Asks, Lies};
+ghost use Rattle.f77_meaning.specs.Demand.{element_address, offset_of, variable_address};
+ghost use Rattle.f77_meaning.specs.Storage.{IsStorage, LiesIn, start_of, storage_units_of, vector_extent, upper_of};
+ghost use Rattle.f77_machine.specs.Evaluated.{as_demand, Asks, GivesAddressBelow};
 
-use crate::answer::Answer;
+use crate::evaluated::Evaluated;
 use f77_ast::expr::Expr;
+use f77_ast::fault::Fault;
 use f77_ast::name::Name;
 use f77_ast::program::{Entity, Layout, Place};
-use f77_ast::refusal::Fault;
 use f77_ast::specification::Bound;
 
 /// The entity that a name stands for in a unit.
@@ -35,8 +35,8 @@ pub fn start(entity: &Entity) -> u32
 }
 
 /// The number of elements of an array, each of one storage unit.
-pub fn elements(entity: &Entity) -> u64
-    ensures { result ≡ units_of entity.now }
+pub fn storage_units(entity: &Entity) -> u64
+    ensures { result ≡ storage_units_of entity.now }
 {
     match entity.bounds.as_slice() {
         [] => 1,
@@ -76,29 +76,29 @@ fn offset(subscript: i64) -> Option<u64>
 }
 
 /// The address of a variable; what has a dimension is none.
-pub fn variable<'a>(entity: &Entity, rest: &'a [i64]) -> Answer<'a, u32>
-    ensures value { as_demand result ≡ variable_of entity.now rest.now }
+pub fn variable<'a>(entity: &Entity, rest: &'a [i64]) -> Evaluated<'a, u32>
+    ensures value { as_demand result ≡ variable_address entity.now rest.now }
     ensures asks { Asks 0 0 (length rest.now) result }
-    ensures lies { Lies (start_of entity.now + units_of entity.now) result }
+    ensures lies { GivesAddressBelow (start_of entity.now + storage_units_of entity.now) result }
 {
     if entity.bounds.is_empty() {
-        Answer::Gives(start(entity), rest)
+        Evaluated::Gives(start(entity), rest)
     } else {
-        Answer::Fails(Fault::Subscript)
+        Evaluated::Fails(Fault::Subscript)
     }
 }
 
 /// The address of the element of a subscript; one outside the dimension is a fault.
-pub fn element<'a>(entity: &Entity, subscript: i64, rest: &'a [i64]) -> Answer<'a, u32>
-    requires within { start_of entity.now + units_of entity.now ≤ 2 ^ 32 }
-    ensures value { as_demand result ≡ element_of entity.now subscript rest.now }
+pub fn element<'a>(entity: &Entity, subscript: i64, rest: &'a [i64]) -> Evaluated<'a, u32>
+    requires within { start_of entity.now + storage_units_of entity.now ≤ 2 ^ 32 }
+    ensures value { as_demand result ≡ element_address entity.now subscript rest.now }
     ensures asks { Asks 0 0 (length rest.now) result }
-    ensures lies { Lies (start_of entity.now + units_of entity.now) result }
+    ensures lies { GivesAddressBelow (start_of entity.now + storage_units_of entity.now) result }
 {
     match (extent(entity), offset(subscript)) {
         (Some(extent), Some(place)) if place < extent => {
-            Answer::Gives(start(entity) + place as u32, rest)
+            Evaluated::Gives(start(entity) + place as u32, rest)
         }
-        _ => Answer::Fails(Fault::Subscript),
+        _ => Evaluated::Fails(Fault::Subscript),
     }
 }

@@ -1,17 +1,17 @@
 //! Processes: one step at a time through the statements of a program.
 ghost use Rattle.std.specs.Prelude.{◌≡◌, ◌+◌, ◌^◌, ◌<◌, ◌≤◌, OnSome, slice_get, vec_capacity};
 ghost use Rattle.std.specs.Option.{option_and_then, option_copied};
-ghost use Rattle.f77_meaning.specs.Process.{statement_at, line_of, first_executable, entry_of, is_executable};
+ghost use Rattle.f77_meaning.specs.Process.{statement_at, source_line, first_executable, entry_of, is_executable};
 
 mod control;
 
 use crate::active::ActiveLoop;
-use crate::answer::Answer;
 use crate::assign::assigned;
 use crate::begin::begin;
+use crate::evaluated::Evaluated;
 use crate::input::Input;
 use crate::line::Line;
-use crate::loops::loop_at;
+use crate::loops::loop_of_do;
 use crate::print::print_line;
 use crate::reads::room_for;
 use f77_ast::expr::{Expr, Ref};
@@ -30,13 +30,21 @@ use std::alloc::Global;
 /// The room for values and loops is reserved when the process is made, so a step takes no memory.
 #[derive(Drop)]
 pub struct Process {
+    /// Its unit, counted from 0.
     unit: u32,
+    /// The place of its statement in the unit, from 0.
     at: usize,
+    /// The initial line of that statement.
     line: u32,
+    /// The values that the statement has read so far.
     answers: Vec<i64>,
+    /// How many values there is room for.
     room: usize,
+    /// The active DO-loops, the outermost one first.
     active: Vec<ActiveLoop>,
+    /// How many active loops there is room for.
     depth: usize,
+    /// Whether the incrementation processing of the innermost active loop comes next.
     increments: bool,
     ghost reserved: { room ≤ vec_capacity answers },
     ghost nested: { depth ≤ vec_capacity active },
@@ -47,23 +55,24 @@ impl Process {
     ghost use Rattle.f77_ast.specs.declared.program.Program.{Program};
     ghost use Rattle.f77_meaning.specs.Assign.{written_of};
     ghost use Rattle.f77_meaning.specs.Event.{reads};
-    ghost use Rattle.f77_meaning.specs.Next.{next, next_by, next_of};
+    ghost use Rattle.f77_meaning.specs.StepOutcome.{outcome_of_step, outcome_by, outcome_from};
     ghost use Rattle.f77_meaning.specs.Print.{line_of_items};
     ghost use Rattle.f77_meaning.specs.Do.{begun_of};
-    ghost use Rattle.f77_meaning.specs.Loops.{number_of};
+    ghost use Rattle.f77_meaning.specs.Loops.{statement_number};
     ghost use Rattle.f77_meaning.specs.Process.{first_process, listed_at};
     ghost use Rattle.f77_meaning.specs.Process as meaning;
-    ghost use Rattle.f77_meaning.specs.Sound.{IsSound, Fits, IsLineOf, HoldsItems};
-    ghost use Rattle.f77_meaning.specs.Step.{after_begun, after_statement, beyond, do_event, increment_event, incremented, loop_at, print_event, write_event, statement_event};
+    ghost use Rattle.f77_meaning.specs.Sound.{IsSound, Fits, IsLineOf, IsClearFor};
+    ghost use Rattle.f77_meaning.specs.Step.{after_begun, after_statement, past_statement, do_event, increment_event, past_increment, loop_of_do, print_event, write_event, statement_event};
     ghost use Rattle.f77_meaning.specs.Storage.{IsStorage};
     ghost use Rattle.f77_ast.specs.declared.step.Stepped.TheVariants.{Inner};
-    ghost use Rattle.f77_machine.specs.Active.{actives_of, InnermostCountsOn};
+    ghost use Rattle.f77_machine.specs.Active.{actives_of, InnermostNumbersFit};
     ghost use Rattle.f77_machine.specs.Input.{left_of};
     ghost use Rattle.f77_machine.specs.Line.{text_of};
     ghost use Rattle.f77_machine.specs.Process.{process_of, HasLoopRoom, IsProcessOf, KeepsPlace};
     ghost use Rattle.f77_machine.specs.Reads.{statement_reads, control_reads, items_reads, subscript_reads, reads_in};
 
-    /// A process at the first executable statement of the main unit. It reserves what its steps need.
+    /// A process at the first executable statement of the main unit. It reserves what its steps need; `NoMemory` also
+    /// where the number of values that a statement may read passes 64 bits.
     pub fn new(alloc: Global, program: &Program) -> Result<Process, NoMemory>
         requires sound { IsSound program.now }
         ensures first { IfOk result (λ p. process_of p ≡ first_process program.now) }
@@ -108,7 +117,7 @@ impl Process {
 
     /// The initial line of its statement.
     pub fn line(&self) -> u32
-        ensures { (program : Program) → IsProcessOf program self.now → result ≡ line_of (listed_at program (process_of self.now)) }
+        ensures { (program : Program) → IsProcessOf program self.now → result ≡ source_line (listed_at program (process_of self.now)) }
     {
         self.line
     }
@@ -116,7 +125,8 @@ impl Process {
     /// One step: the statement's next event, and what it does to storage. It takes no memory.
     ///
     /// Every address may be got. Before a step of a PRINT the line is empty. After `Printed` it holds the printed
-    /// line, and the caller clears it before the next step; after any other answer it is as before.
+    /// line, and the caller clears it before the next step; after any other answer it is as before. The marks of
+    /// accumulations and of DO-variables aren't answered yet: `by` and `control` are none.
     pub fn step<C: Cells>(
         &mut self,
         program: &Program,
@@ -130,8 +140,8 @@ impl Process {
         requires allowed { (address : ℕ) → IsTrue (C.may_get cells.old address) }
         requires items { IsLineOf program.now (process_of self.old) (text_of line.old) }
 
-        ensures next { next_of result (process_of self.new) (C.values cells.new) (C.reads cells.new) (text_of line.new)
-            ≡ next program.now (process_of self.old) (C.values cells.old) (C.reads cells.old) (text_of line.old) }
+        ensures next { outcome_from result (process_of self.new) (C.values cells.new) (C.reads cells.new) (text_of line.new)
+            ≡ outcome_of_step program.now (process_of self.old) (C.values cells.old) (C.reads cells.old) (text_of line.old) }
         ensures is_of { IsProcessOf program.now self.new }
         ensures fits { Fits program.now.layout (C.values cells.new) }
         ensures same_test { C.may_get cells.new ≡ C.may_get cells.old }
@@ -148,11 +158,11 @@ impl Process {
     /// 11.10.7).
     fn increment<C: Cells>(&mut self, program: &Program, cells: &mut C) -> Stepped
         requires depth { length self.old.active.items ≤ self.old.depth }
-        requires numbers { InnermostCountsOn (length (C.values cells.old)) self.old.active.items }
+        requires numbers { InnermostNumbersFit (length (C.values cells.old)) self.old.active.items }
         requires fits { Fits program.now.layout (C.values cells.old) }
         requires after { self.old.at + 1 < 2 ^ 64 }
-        ensures next { (text : List ℕ) → next_of result (process_of self.new) (C.values cells.new) (C.reads cells.new) text
-            ≡ next_by (increment_event (actives_of self.old.active.items)) (incremented self.old.unit self.old.at (actives_of self.old.active.items)) (process_of self.old) (C.values cells.old) (C.reads cells.old) text }
+        ensures next { (text : List ℕ) → outcome_from result (process_of self.new) (C.values cells.new) (C.reads cells.new) text
+            ≡ outcome_by (increment_event (actives_of self.old.active.items)) (past_increment self.old.unit self.old.at (actives_of self.old.active.items)) (process_of self.old) (C.values cells.old) (C.reads cells.old) text }
         ensures fits { Fits program.now.layout (C.values cells.new) }
         ensures same_test { C.may_get cells.new ≡ C.may_get cells.old }
         ensures place { KeepsPlace program.now self.old self.new }
@@ -183,14 +193,14 @@ impl Process {
         requires room { statement_reads program.now.layout self.old.unit stmt.now ≤ self.old.room }
         requires fits { Fits program.now.layout (C.values cells.old) }
         requires allowed { (address : ℕ) → IsTrue (C.may_get cells.old address) }
-        requires items { HoldsItems stmt.now (text_of line.old) }
+        requires clear { IsClearFor stmt.now (text_of line.old) }
         requires after { self.old.at + 1 < 2 ^ 64 }
         requires sound { IsSound program.now }
-        requires few { number_of program.now.units self.old.unit self.old.at + 1 < 2 ^ 32 }
+        requires few { statement_number program.now.units self.old.unit self.old.at + 1 < 2 ^ 32 }
         requires depth { HasLoopRoom stmt.now self.old }
         requires control { self.old.increments ≡ false }
-        ensures next { next_of result (process_of self.new) (C.values cells.new) (C.reads cells.new) (text_of line.new)
-            ≡ next_by (statement_event program.now self.old.unit self.old.at stmt.now self.old.answers.items) (after_statement program.now (process_of self.old) stmt.now) (process_of self.old) (C.values cells.old) (C.reads cells.old) (text_of line.old) }
+        ensures next { outcome_from result (process_of self.new) (C.values cells.new) (C.reads cells.new) (text_of line.new)
+            ≡ outcome_by (statement_event program.now self.old.unit self.old.at stmt.now self.old.answers.items) (after_statement program.now (process_of self.old) stmt.now) (process_of self.old) (C.values cells.old) (C.reads cells.old) (text_of line.old) }
         ensures fits { Fits program.now.layout (C.values cells.new) }
         ensures same_test { C.may_get cells.new ≡ C.may_get cells.old }
         ensures place { KeepsPlace program.now self.old self.new }
@@ -208,10 +218,10 @@ impl Process {
     fn pass(&mut self, program: &Program) -> Stepped
         requires after { self.old.at + 1 < 2 ^ 64 }
         ensures stepped { result ≡ Inner }
-        ensures process { process_of self.new ≡ beyond self.old.unit self.old.at (actives_of self.old.active.items) }
+        ensures process { process_of self.new ≡ past_statement self.old.unit self.old.at (actives_of self.old.active.items) }
         ensures place { KeepsPlace program.now self.old self.new }
     {
-        self.go_beyond(program, self.at);
+        self.go_past(program, self.at);
         Stepped::Inner
     }
 
@@ -226,19 +236,19 @@ impl Process {
         requires room { control_reads control.now ≤ self.old.room }
         requires fits { Fits program.now.layout (C.values cells.old) }
         requires allowed { (address : ℕ) → IsTrue (C.may_get cells.old address) }
-        requires few { number_of program.now.units self.old.unit self.old.at + 1 < 2 ^ 32 }
+        requires few { statement_number program.now.units self.old.unit self.old.at + 1 < 2 ^ 32 }
         requires depth { length self.old.active.items < self.old.depth }
-        ensures next { (text : List ℕ) → next_of result (process_of self.new) (C.values cells.new) (C.reads cells.new) text
-            ≡ next_by (do_event (loop_at program.now self.old.unit self.old.at) (begun_of program.now.layout self.old.unit control.now self.old.answers.items)) (after_begun (process_of self.old) (loop_at program.now self.old.unit self.old.at) (begun_of program.now.layout self.old.unit control.now self.old.answers.items)) (process_of self.old) (C.values cells.old) (C.reads cells.old) text }
+        ensures next { (text : List ℕ) → outcome_from result (process_of self.new) (C.values cells.new) (C.reads cells.new) text
+            ≡ outcome_by (do_event (loop_of_do program.now self.old.unit self.old.at) (begun_of program.now.layout self.old.unit control.now self.old.answers.items)) (after_begun (process_of self.old) (loop_of_do program.now self.old.unit self.old.at) (begun_of program.now.layout self.old.unit control.now self.old.answers.items)) (process_of self.old) (C.values cells.old) (C.reads cells.old) text }
         ensures fits { Fits program.now.layout (C.values cells.new) }
         ensures same_test { C.may_get cells.new ≡ C.may_get cells.old }
         ensures place { KeepsPlace program.now self.old self.new }
     {
-        let Some(found) = loop_at(program, self.unit, self.at) else {
+        let Some(found) = loop_of_do(program, self.unit, self.at) else {
             return Stepped::Ended;
         };
         match begin(&program.layout, self.unit, control, self.answers.as_slice()) {
-            Answer::Gives(begun, _rest) => {
+            Evaluated::Gives(begun, _rest) => {
                 cells.put(begun.variable, begun.first);
                 self.enter(program, ActiveLoop::new(self.at, *found, begun));
                 Stepped::Wrote {
@@ -247,8 +257,8 @@ impl Process {
                     control: None,
                 }
             }
-            Answer::Wants(address) => self.read(address, cells),
-            Answer::Fails(fault) => Stepped::Faulted(fault),
+            Evaluated::Wants(address) => self.read(address, cells),
+            Evaluated::Fails(fault) => Stepped::Faulted(fault),
         }
     }
 
@@ -265,8 +275,8 @@ impl Process {
         requires fits { Fits program.now.layout (C.values cells.old) }
         requires allowed { (address : ℕ) → IsTrue (C.may_get cells.old address) }
         requires after { self.old.at + 1 < 2 ^ 64 }
-        ensures next { (text : List ℕ) → next_of result (process_of self.new) (C.values cells.new) (C.reads cells.new) text
-            ≡ next_by (write_event (written_of program.now.layout self.old.unit target.now value.now self.old.answers.items)) (beyond self.old.unit self.old.at (actives_of self.old.active.items)) (process_of self.old) (C.values cells.old) (C.reads cells.old) text }
+        ensures next { (text : List ℕ) → outcome_from result (process_of self.new) (C.values cells.new) (C.reads cells.new) text
+            ≡ outcome_by (write_event (written_of program.now.layout self.old.unit target.now value.now self.old.answers.items)) (past_statement self.old.unit self.old.at (actives_of self.old.active.items)) (process_of self.old) (C.values cells.old) (C.reads cells.old) text }
         ensures fits { Fits program.now.layout (C.values cells.new) }
         ensures same_test { C.may_get cells.new ≡ C.may_get cells.old }
         ensures place { KeepsPlace program.now self.old self.new }
@@ -278,17 +288,17 @@ impl Process {
             value,
             self.answers.as_slice(),
         ) {
-            Answer::Gives((address, value), _rest) => {
+            Evaluated::Gives((address, value), _rest) => {
                 cells.put(address, value);
-                self.go_beyond(program, self.at);
+                self.go_past(program, self.at);
                 Stepped::Wrote {
                     address,
                     by: None,
                     control: None,
                 }
             }
-            Answer::Wants(address) => self.read(address, cells),
-            Answer::Fails(fault) => Stepped::Faulted(fault),
+            Evaluated::Wants(address) => self.read(address, cells),
+            Evaluated::Fails(fault) => Stepped::Faulted(fault),
         }
     }
 
@@ -306,8 +316,8 @@ impl Process {
         requires allowed { (address : ℕ) → IsTrue (C.may_get cells.old address) }
         requires items { text_of line.old ≡ [] }
         requires after { self.old.at + 1 < 2 ^ 64 }
-        ensures next { next_of result (process_of self.new) (C.values cells.new) (C.reads cells.new) (text_of line.new)
-            ≡ next_by (print_event (line_of_items program.now.layout self.old.unit items.now self.old.answers.items)) (beyond self.old.unit self.old.at (actives_of self.old.active.items)) (process_of self.old) (C.values cells.old) (C.reads cells.old) (text_of line.old) }
+        ensures next { outcome_from result (process_of self.new) (C.values cells.new) (C.reads cells.new) (text_of line.new)
+            ≡ outcome_by (print_event (line_of_items program.now.layout self.old.unit items.now self.old.answers.items)) (past_statement self.old.unit self.old.at (actives_of self.old.active.items)) (process_of self.old) (C.values cells.old) (C.reads cells.old) (text_of line.old) }
         ensures fits { Fits program.now.layout (C.values cells.new) }
         ensures same_test { C.may_get cells.new ≡ C.may_get cells.old }
         ensures place { KeepsPlace program.now self.old self.new }
@@ -319,15 +329,15 @@ impl Process {
             line,
             self.answers.as_slice(),
         ) {
-            Answer::Gives((), _rest) => {
-                self.go_beyond(program, self.at);
+            Evaluated::Gives((), _rest) => {
+                self.go_past(program, self.at);
                 Stepped::Printed
             }
-            Answer::Wants(address) => {
+            Evaluated::Wants(address) => {
                 line.clear();
                 self.read(address, cells)
             }
-            Answer::Fails(fault) => {
+            Evaluated::Fails(fault) => {
                 line.clear();
                 Stepped::Faulted(fault)
             }
@@ -339,8 +349,8 @@ impl Process {
         requires within { address < length (C.values cells.old) }
         requires allowed { IsTrue (C.may_get cells.old address) }
         requires room { length self.old.answers.items < self.old.room }
-        ensures next { (done : meaning.Process) (text : List ℕ) → next_of result (process_of self.new) (C.values cells.new) (C.reads cells.new) text
-            ≡ next_by (reads address None) done (process_of self.old) (C.values cells.old) (C.reads cells.old) text }
+        ensures next { (done : meaning.Process) (text : List ℕ) → outcome_from result (process_of self.new) (C.values cells.new) (C.reads cells.new) text
+            ≡ outcome_by (reads address None) done (process_of self.old) (C.values cells.old) (C.reads cells.old) text }
         ensures values { C.values cells.new ≡ C.values cells.old }
         ensures same_test { C.may_get cells.new ≡ C.may_get cells.old }
         ensures place { (program : Program) → KeepsPlace program self.old self.new }
@@ -411,7 +421,7 @@ fn statement_of_unit(units: &[Unit], unit: u32, at: usize) -> Option<&Listed>
 
 /// The initial line of the statement at a place of a unit.
 fn line_at(program: &Program, unit: u32, at: usize) -> u32
-    ensures { result ≡ line_of (statement_at program.now unit at) }
+    ensures { result ≡ source_line (statement_at program.now unit at) }
 {
     match statement_at(program, unit, at) {
         None => 0,

@@ -1,10 +1,10 @@
 //! How many units the statements of a program read at most.
 ghost use Rattle.std.specs.Prelude.{◌≡◌, ◌≤◌, IfSome};
 ghost use Rattle.f77_meaning.specs.Storage.{IsStorage};
-ghost use Rattle.f77_machine.specs.Reads.{reads_in, subscript_reads, item_reads, items_reads, step_reads, control_reads, statement_reads, AllHaveRoom, HasRoom};
+ghost use Rattle.f77_machine.specs.Reads.{reads_in, subscript_reads, item_reads, items_reads, increment_reads, control_reads, statement_reads, AllHaveRoom, HasRoom};
 
 use crate::array::array_named;
-use crate::place::elements;
+use crate::place::storage_units;
 use f77_ast::expr::{Expr, Ref};
 use f77_ast::program::{Layout, Listing, Program};
 use f77_ast::stmt::{Item, LoopControl, Stmt};
@@ -49,7 +49,7 @@ fn item_reads(layout: &Layout, unit: u32, item: &Item) -> Option<usize>
 {
     match item {
         Item::Plain(expr) => match array_named(layout, unit, expr) {
-            Some(array) => Some(elements(array).min(MOST_ELEMENTS) as usize),
+            Some(array) => Some(storage_units(array).min(MOST_ELEMENTS) as usize),
             None => reads_in(expr),
         },
         Item::Implied(_, _) => Some(0),
@@ -69,12 +69,12 @@ fn items_reads(layout: &Layout, unit: u32, items: &[Item]) -> Option<usize>
 }
 
 /// The same of a parameter of a DO statement that may be left out.
-fn step_reads(step: &Option<Expr>) -> Option<usize>
-    ensures { IfSome result (λ n. n ≡ step_reads step.now) }
+fn increment_reads(increment: &Option<Expr>) -> Option<usize>
+    ensures { IfSome result (λ n. n ≡ increment_reads increment.now) }
 {
-    match step {
+    match increment {
         None => Some(0),
-        Some(step) => reads_in(step),
+        Some(increment) => reads_in(increment),
     }
 }
 
@@ -82,7 +82,7 @@ fn step_reads(step: &Option<Expr>) -> Option<usize>
 fn control_reads(control: &LoopControl) -> Option<usize>
     ensures { IfSome result (λ n. n ≡ control_reads control.now) }
 {
-    let after_first = reads_in(&control.last)?.checked_add(step_reads(&control.step)?)?;
+    let after_first = reads_in(&control.last)?.checked_add(increment_reads(&control.increment)?)?;
     reads_in(&control.first)?.checked_add(after_first)
 }
 

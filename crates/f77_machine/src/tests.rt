@@ -2,25 +2,26 @@
 ghost use Rattle.std.specs.Prelude.{◌≡◌, IfOk, IsTrue, length};
 ghost use Rattle.f77_ast.specs.declared.program.Layout.{Layout};
 ghost use Rattle.f77_ast.specs.declared.program.Place.TheVariants.{Stored};
-ghost use Rattle.f77_meaning.specs.Sound.{IsSound, items_resolve};
+ghost use Rattle.f77_meaning.specs.Resolves.{items_resolve};
+ghost use Rattle.f77_meaning.specs.Sound.{IsSound};
 ghost use Rattle.f77_meaning.specs.Storage.{IsStorage};
 
-use crate::answer::Answer;
 use crate::demand::demand;
+use crate::evaluated::Evaluated;
 use crate::input::Input;
 use crate::line::Line;
-use crate::place::elements;
+use crate::place::storage_units;
 use crate::print::print_line;
 use crate::process::Process;
 use crate::store::Store;
 use f77_ast::code::Code;
 use f77_ast::entities::Entities;
 use f77_ast::expr::{Expr, Kind, Op, Ref};
+use f77_ast::fault::Fault;
 use f77_ast::name::Name;
 use f77_ast::program::{
     Bounds, Card, Entity, Layout, Listed, Listing, Loops, Place, Program, Regions, Unit, Units,
 };
-use f77_ast::refusal::Fault;
 use f77_ast::specification::Bound;
 use f77_ast::step::Stepped;
 use f77_ast::stmt::{Item, Stmt};
@@ -227,11 +228,11 @@ fn parentheses_hide_an_array(rt: HostRuntime) -> Result<(), Fail> {
 }
 
 /// The unit that is read next, or a fault.
-fn asked<'a>(answer: Answer<'a, ()>) -> Result<Option<u32>, Fault> {
+fn asked<'a>(answer: Evaluated<'a, ()>) -> Result<Option<u32>, Fault> {
     match answer {
-        Answer::Gives((), _) => Ok(None),
-        Answer::Wants(address) => Ok(Some(address)),
-        Answer::Fails(fault) => Err(fault),
+        Evaluated::Gives((), _) => Ok(None),
+        Evaluated::Wants(address) => Ok(Some(address)),
+        Evaluated::Fails(fault) => Err(fault),
     }
 }
 
@@ -293,7 +294,7 @@ fn an_array(alloc: Global, upper: i64) -> Result<Layout, Fail>
     ensures { IfOk result IsStorage }
 {
     let array = an_entity(alloc, upper)?;
-    let units = elements(&array);
+    let units = storage_units(&array);
     if units > 10_000 {
         return Err(Fail::from("the array is too long"));
     }
@@ -355,9 +356,9 @@ fn value_of(layout: &Layout, tree: &Expr) -> Result<i64, Option<Fault>>
     requires { IsStorage layout.now }
 {
     match demand(layout, 0, tree, &[]) {
-        Answer::Gives(value, _) => Ok(value),
-        Answer::Wants(_) => Err(None),
-        Answer::Fails(fault) => Err(Some(fault)),
+        Evaluated::Gives(value, _) => Ok(value),
+        Evaluated::Wants(_) => Err(None),
+        Evaluated::Fails(fault) => Err(Some(fault)),
     }
 }
 

@@ -5,7 +5,7 @@ use Rattle.f77_ast.specs.declared.program.Listed.{Listed}
 use Rattle.f77_ast.specs.declared.program.Loop.{Loop}
 use Rattle.f77_ast.specs.declared.program.Unit.{Unit as ProgramUnit}
 use Rattle.f77_ast.specs.Loop.{IsNumbered}
-use Rattle.f77_meaning.specs.Loops.{terminal_of, loop_from, loops_in, loops_among, loops_of}
+use Rattle.f77_meaning.specs.Loops.{terminal_label, loop_from, loops_in, loops_among, loops_of}
 
 -- some loops stand in the order of their ordinals, which count from this one
 pub record AreNumberedFrom (ordinal : ℕ) (loops : List Loop) : Type 0 where
@@ -38,7 +38,7 @@ numbered_append ordinal (first ∷ loops) more numbered behind =
 pub loops_in-numbered : (unit ordinal number : ℕ) (listing : List Listed) → AreNumberedFrom ordinal (loops_in unit ordinal number listing)
 loops_in-numbered unit ordinal number [] = none_numbered ordinal
 loops_in-numbered unit ordinal number (listed ∷ following) =
-    by (terminal_of listed.stmt) (loops_in-numbered unit ordinal (suc number) following) (loops_in-numbered unit (suc ordinal) (suc number) following)
+    by (terminal_label listed.stmt) (loops_in-numbered unit ordinal (suc number) following) (loops_in-numbered unit (suc ordinal) (suc number) following)
   where
     by : (o : Option ℕ) → AreNumberedFrom ordinal (loops_in unit ordinal (suc number) following) → AreNumberedFrom (suc ordinal) (loops_in unit (suc ordinal) (suc number) following) → AreNumberedFrom ordinal (option_map_or (λ label. loop_from unit ordinal number listed.card.line label following ∷ loops_in unit (suc ordinal) (suc number) following) o (loops_in unit ordinal (suc number) following))
     by None same more = same

@@ -6,7 +6,7 @@ use Rattle.f77_ast.specs.declared.program.Listed.{Listed}
 use Rattle.f77_ast.specs.declared.program.Loop.{Loop}
 use Rattle.f77_ast.specs.declared.program.Program.{Program}
 use Rattle.f77_ast.specs.declared.program.Unit.{Unit as ProgramUnit}
-use Rattle.f77_meaning.specs.Loops.{terminal_of, loop_from, loops_in, loops_among}
+use Rattle.f77_meaning.specs.Loops.{terminal_label, loop_from, loops_in, loops_among}
 use Rattle.f77_meaning.specs.Process.{ActiveLoop, listing_of}
 use Rattle.f77_meaning.specs.Ranges.{IsDo}
 use Rattle.f77_meaning.specs.Sound.{AreActive, IsSound}
@@ -19,7 +19,7 @@ counted (Some label) n = suc n
 -- the number of DO statements among some statements
 abbrev dos : List Listed → ℕ
 dos [] = 0
-dos (x ∷ xs) = counted (terminal_of x.stmt) (dos xs)
+dos (x ∷ xs) = counted (terminal_label x.stmt) (dos xs)
 
 counted_more : (t : Option ℕ) (a b : ℕ) → a ≤ b → counted t a ≤ counted t b
 counted_more None a b h = h
@@ -30,12 +30,12 @@ dos_of_more : (a b : ℕ) (xs : List Listed) → a ≤ b → dos (take a xs) ≤
 dos_of_more zero b xs h = omega arith
 dos_of_more (suc a) zero xs h = absurd (omega (arith, h))
 dos_of_more (suc a) (suc b) [] h = omega arith
-dos_of_more (suc a) (suc b) (x ∷ xs) h = counted_more (terminal_of x.stmt) (dos (take a xs)) (dos (take b xs)) (dos_of_more a b xs (omega (arith, h)))
+dos_of_more (suc a) (suc b) (x ∷ xs) h = counted_more (terminal_label x.stmt) (dos (take a xs)) (dos (take b xs)) (dos_of_more a b xs (omega (arith, h)))
 
 dos_of_all : (a : ℕ) (xs : List Listed) → dos (take a xs) ≤ dos xs
 dos_of_all zero xs = omega arith
 dos_of_all (suc a) [] = omega arith
-dos_of_all (suc a) (x ∷ xs) = counted_more (terminal_of x.stmt) (dos (take a xs)) (dos xs) (dos_of_all a xs)
+dos_of_all (suc a) (x ∷ xs) = counted_more (terminal_label x.stmt) (dos (take a xs)) (dos xs) (dos_of_all a xs)
 
 counted_suc : (t : Option ℕ) (n : ℕ) → counted t (suc n) ≡ suc (counted t n)
 counted_suc None n = refl
@@ -46,10 +46,10 @@ dos_with : (at label : ℕ) (xs : List Listed) → IsDo xs at label → dos (tak
 dos_with at label [] d = absurd (cc)
 dos_with zero label (x ∷ xs) d =
     let same : x ≡ d.listed = cc in
-    ap (λ t. counted t 0) (ap (λ l. terminal_of l.stmt) same ∙ d.names)
+    ap (λ t. counted t 0) (ap (λ l. terminal_label l.stmt) same ∙ d.names)
 dos_with (suc at) label (x ∷ xs) d =
-    ap (counted (terminal_of x.stmt)) (dos_with at label xs (record { listed = d.listed; stands = d.stands; names = d.names }))
-    ∙ counted_suc (terminal_of x.stmt) (dos (take at xs))
+    ap (counted (terminal_label x.stmt)) (dos_with at label xs (record { listed = d.listed; stands = d.stands; names = d.names }))
+    ∙ counted_suc (terminal_label x.stmt) (dos (take at xs))
 
 -- no more loops are active at a place than there are DO statements before it
 active_bound : (total low high : ℕ) (listing : List Listed) (active : List ActiveLoop) → AreActive total listing low high active → length active ≤ dos (take low listing)
@@ -63,7 +63,7 @@ active_bound total low high listing (loop ∷ outer) a =
 -- each DO statement of a unit has its loop
 length_loops_in : (unit ordinal number : ℕ) (listing : List Listed) → length (loops_in unit ordinal number listing) ≡ dos listing
 length_loops_in unit ordinal number [] = refl
-length_loops_in unit ordinal number (x ∷ xs) = by (terminal_of x.stmt) (length_loops_in unit ordinal (suc number) xs) (length_loops_in unit (suc ordinal) (suc number) xs)
+length_loops_in unit ordinal number (x ∷ xs) = by (terminal_label x.stmt) (length_loops_in unit ordinal (suc number) xs) (length_loops_in unit (suc ordinal) (suc number) xs)
   where
     by : (t : Option ℕ) → length (loops_in unit ordinal (suc number) xs) ≡ dos xs → length (loops_in unit (suc ordinal) (suc number) xs) ≡ dos xs → length (option_map_or (λ label. loop_from unit ordinal number x.card.line label xs ∷ loops_in unit (suc ordinal) (suc number) xs) t (loops_in unit ordinal (suc number) xs)) ≡ counted t (dos xs)
     by None plain rest = plain

@@ -5,12 +5,12 @@ use Rattle.std.specs.Prelude.{nat_le}
 use Rattle.hyb_base.specs.Decimal.{decimal_of}
 use Rattle.f77_ast.specs.declared.program.Entity.{Entity}
 use Rattle.f77_ast.specs.declared.program.Layout.{Layout}
-use Rattle.f77_ast.specs.declared.refusal.Fault.TheVariants.{LineLimit}
+use Rattle.f77_ast.specs.declared.fault.Fault.TheVariants.{LineLimit}
 use Rattle.f77_ast.specs.declared.stmt.Item.{Item, Plain}
 use Rattle.f77_meaning.specs.Arrays.{array_named}
-use Rattle.f77_meaning.specs.Demand.{Demand, gives, wants, fails, and_then, demand_of, Evaluation, taken}
-use Rattle.f77_meaning.specs.Print.{line_limit, with_item, with_value, units_from, array_or_value, or_blank, item_of, items_of, line_of_items}
-use Rattle.f77_meaning.specs.Storage.{start_of, units_of}
+use Rattle.f77_meaning.specs.Demand.{Demand, gives, wants, fails, and_then, demand_of, Evaluation, unit_value}
+use Rattle.f77_meaning.specs.Print.{line_limit, with_item, with_value, after_units, array_or_value, or_blank, after_item, after_items, line_of_items}
+use Rattle.f77_meaning.specs.Storage.{start_of, storage_units_of}
 
 -- a line that was made is no longer than a line may be
 abbrev pub IsShort : Demand (List ℕ) → Type 0
@@ -38,23 +38,23 @@ with_value_short line (gives value rest) = with_item_short line (decimal_of valu
 with_value_short line (wants address) = tt
 with_value_short line (fails fault) = tt
 
-units_short : (address count : ℕ) (line : List ℕ) (answers : List ℤ) → length line ≤ line_limit → IsShort (units_from address count line answers)
+units_short : (address count : ℕ) (line : List ℕ) (answers : List ℤ) → length line ≤ line_limit → IsShort (after_units address count line answers)
 units_short address zero line answers h = h
 units_short address (suc count) line answers h =
-    then_short (units_from (address + 1) count) (with_value line (taken address answers)) (units_short (address + 1) count) (with_value_short line (taken address answers))
+    then_short (after_units (address + 1) count) (with_value line (unit_value address answers)) (units_short (address + 1) count) (with_value_short line (unit_value address answers))
 
 array_or_value_short : (o : Option Entity) (value : Evaluation) (line : List ℕ) (answers : List ℤ) → length line ≤ line_limit → IsShort (array_or_value o value line answers)
-array_or_value_short (Some array) value line answers h = units_short (start_of array) (units_of array) line answers h
+array_or_value_short (Some array) value line answers h = units_short (start_of array) (storage_units_of array) line answers h
 array_or_value_short None value line answers h = with_value_short line (value answers)
 
-item_short : (layout : Layout) (unit : ℕ) (item : Item) (line : List ℕ) (answers : List ℤ) → length line ≤ line_limit → IsShort (item_of layout unit item line answers)
+item_short : (layout : Layout) (unit : ℕ) (item : Item) (line : List ℕ) (answers : List ℤ) → length line ≤ line_limit → IsShort (after_item layout unit item line answers)
 item_short layout unit (Plain expr) line answers h = array_or_value_short (array_named layout unit expr) (demand_of layout unit expr) line answers h
 item_short layout unit _ line answers h = h
 
-items_short : (layout : Layout) (unit : ℕ) (items : List Item) (line : List ℕ) (answers : List ℤ) → length line ≤ line_limit → IsShort (items_of layout unit items line answers)
+items_short : (layout : Layout) (unit : ℕ) (items : List Item) (line : List ℕ) (answers : List ℤ) → length line ≤ line_limit → IsShort (after_items layout unit items line answers)
 items_short layout unit [] line answers h = h
 items_short layout unit (item ∷ items) line answers h =
-    then_short (items_of layout unit items) (item_of layout unit item line answers) (items_short layout unit items) (item_short layout unit item line answers h)
+    then_short (after_items layout unit items) (after_item layout unit item line answers) (items_short layout unit items) (item_short layout unit item line answers h)
 
 or_blank_short : (line : List ℕ) → length line ≤ line_limit → length (or_blank line) ≤ line_limit
 or_blank_short [] h = omega arith
@@ -63,4 +63,4 @@ or_blank_short (byte ∷ bytes) h = h
 -- the line of a PRINT
 pub line_short : (layout : Layout) (unit : ℕ) (items : List Item) (answers : List ℤ) → IsShort (line_of_items layout unit items answers)
 line_short layout unit items answers =
-    then_short (λ line rest. gives (or_blank line) rest) (items_of layout unit items [] answers) (λ line rest h. or_blank_short line h) (items_short layout unit items [] answers (omega arith))
+    then_short (λ line rest. gives (or_blank line) rest) (after_items layout unit items [] answers) (λ line rest h. or_blank_short line h) (items_short layout unit items [] answers (omega arith))

@@ -11,9 +11,10 @@ use Rattle.f77_ast.specs.declared.program.Unit.{Unit as ProgramUnit}
 use Rattle.f77_ast.specs.declared.stmt.Item.{Plain}
 use Rattle.f77_ast.specs.declared.stmt.Stmt.{End}
 use Rattle.f77_meaning.specs.Arrays.{array_named}
-use Rattle.f77_meaning.specs.Loops.{loops_of, statements_of}
+use Rattle.f77_meaning.specs.Loops.{loops_of, statement_count}
 use Rattle.f77_meaning.specs.Ranges.{RangesNest}
-use Rattle.f77_meaning.specs.Sound.{EndsWithEnd, IsSound, item_resolves, resolves, statement_resolves}
+use Rattle.f77_meaning.specs.Resolves.{item_resolves, resolves, statement_resolves}
+use Rattle.f77_meaning.specs.Sound.{EndsWithEnd, IsSound}
 use Rattle.f77_meaning.specs.Storage.{IsStorage}
 
 -- what holds of the one item of a list holds of each
@@ -43,7 +44,7 @@ one_unit_is_sound program main before last units listing ends resolved storage l
       storage = storage;
       loops = loops;
       ranges = subst (All (λ unit. RangesNest unit.listing)) (sym units) (all_of_one (λ unit. RangesNest unit.listing) main ranges);
-      counted = subst (λ us. statements_of us + 1 < 2 ^ 32) (sym units) (omega (arith, few));
+      counted = subst (λ us. statement_count us + 1 < 2 ^ 32) (sym units) (omega (arith, few));
     }
 
 -- an expression whose references name entities may be an item

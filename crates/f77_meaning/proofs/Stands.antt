@@ -2,27 +2,27 @@
 use Rattle.std.proofs.Common.{◌≡◌, ◌≢◌, ℕ, zero, suc, ◌+◌, ◌-◌, ◌<◌, ◌≤◌, ◌^◌, ◌==◌, ◌&&◌, ℤ, pos, List, [], ◌∷◌, ◌++◌, All, length, Option, None, Some, IsSome, IsTrue, refl, sym, ap, subst, ◌∙◌, arith, slice_get, Bool, true, false, not, cond, find}
 use Rattle.std.specs.Prelude.{nat_lt}
 use Rattle.std.specs.Option.{option_and_then}
-use Rattle.f77_ast.specs.Entity.{entity_in, is_called}
+use Rattle.f77_ast.specs.Entity.{entity_in, is_named}
 use Rattle.f77_ast.specs.declared.program.Entity.{Entity}
 use Rattle.f77_ast.specs.declared.program.Layout.{Layout}
 use Rattle.f77_ast.specs.declared.program.Listed.{Listed}
 use Rattle.f77_ast.specs.declared.program.Loop.{Loop}
 use Rattle.f77_ast.specs.declared.program.Program.{Program}
 use Rattle.f77_ast.specs.declared.program.Unit.{Unit as ProgramUnit}
-use Rattle.f77_ast.specs.declared.refusal.Fault.TheVariants.{Subscript, ZeroIncrement, DoRange}
+use Rattle.f77_ast.specs.declared.fault.Fault.TheVariants.{Subscript, ZeroIncrement, DoRange}
 use Rattle.f77_ast.specs.declared.specification.Bound.{Bound}
 use Rattle.f77_ast.specs.declared.stmt.LoopControl.{LoopControl}
 use Rattle.f77_ast.specs.declared.stmt.Stmt.{Stmt, Assign, Continue, Do, Print, End}
 use Rattle.f77_meaning.specs.Assign.{Written, written_of}
 use Rattle.f77_meaning.specs.Demand.{Demand, gives, wants, fails, and_then, located}
 use Rattle.f77_meaning.specs.Do.{Begun, Parameters, begun_of, begun_with, parameters_of, active_from, is_in_range, is_zero, count_of, has_64_bits, value_after}
-use Rattle.f77_meaning.specs.Loops.{loop_that_begins, number_of, terminal_of}
+use Rattle.f77_meaning.specs.Loops.{loop_with_range_from, statement_number, terminal_label}
 use Rattle.f77_meaning.specs.Print.{line_of_items}
 use Rattle.f77_meaning.specs.Process.{ActiveLoop, Process, listed_at, listing_of, is_executable, first_executable, entry_of, first_process}
 use Rattle.f77_meaning.specs.Ranges.{HasRange, IsDo, RangesNest, may_end_range, terminal_at}
-use Rattle.f77_meaning.specs.Sound.{AreActive, CountsOn, EndsWithEnd, IsActive, IsOf, IsSound}
-use Rattle.f77_meaning.specs.Step.{after_begun, after_listed, after_statement, beyond, do_event, entered, event, event_at, increment_event, incremented, is_terminal, loop_at, onward, print_event, resumed_by, statement_event, write_event}
-use Rattle.f77_meaning.specs.Storage.{IsStorage, LiesIn, is_scalar, start_of, units_of, units_by}
+use Rattle.f77_meaning.specs.Sound.{AreActive, NumbersFit, EndsWithEnd, IsActive, IsOf, IsSound}
+use Rattle.f77_meaning.specs.Step.{after_begun, after_listed, after_statement, past_statement, do_event, past_do, event, event_at, increment_event, past_increment, is_terminal, loop_of_do, once_done, print_event, resumed_by, statement_event, write_event}
+use Rattle.f77_meaning.specs.Storage.{IsStorage, LiesIn, is_scalar, start_of, storage_units_of, storage_units_by}
 use Rattle.f77_meaning.proofs.Loops.{range_of_loop}
 
 -- whether control goes on after a statement: after all but END
@@ -104,8 +104,8 @@ one_further total at listing (loop ∷ outer) a e =
     less a b h n = grind (arith, h, n)
 
 -- behind a statement that isn't END, in the range of each active loop, stands a process of the program
-beyond_is_of : (program : Program) (u at : ℕ) (active : List ActiveLoop) (listed : Listed) → IsSound program → slice_get (listing_of program.units u) at ≡ Some listed → goes_on listed.stmt → AreActive (length program.layout.first) (listing_of program.units u) at at active → IsOf program (beyond u at active)
-beyond_is_of program u at active listed sound here goes actives = by (is_terminal at active) refl
+past_statement_is_of : (program : Program) (u at : ℕ) (active : List ActiveLoop) (listed : Listed) → IsSound program → slice_get (listing_of program.units u) at ≡ Some listed → goes_on listed.stmt → AreActive (length program.layout.first) (listing_of program.units u) at at active → IsOf program (past_statement u at active)
+past_statement_is_of program u at active listed sound here goes actives = by (is_terminal at active) refl
   where
     ended : EndsWithEnd (listing_of program.units u)
     ended = of_unit EndsWithEnd program.units u at listed sound.ended here
@@ -115,9 +115,9 @@ beyond_is_of program u at active listed sound here goes actives = by (is_termina
     by false e = at_place program u (at + 1) active (after_in (listing_of program.units u) listed at ended here goes) (one_further (length program.layout.first) at (listing_of program.units u) active actives e)
 
 -- after the incrementation processing of the innermost active loop stands a process of the program
-incremented_is_of : (program : Program) (u at : ℕ) (active : List ActiveLoop) → IsSound program → IsSome (slice_get (listing_of program.units u) at) → AreActive (length program.layout.first) (listing_of program.units u) at at active → IsTrue (is_terminal at active) → IsOf program (incremented u at active)
-incremented_is_of program u at [] sound stands actives e = absurd (cc)
-incremented_is_of program u at (loop ∷ outer) sound stands actives e = by (nat_lt (suc loop.done) loop.count) refl
+past_increment_is_of : (program : Program) (u at : ℕ) (active : List ActiveLoop) → IsSound program → IsSome (slice_get (listing_of program.units u) at) → AreActive (length program.layout.first) (listing_of program.units u) at at active → IsTrue (is_terminal at active) → IsOf program (past_increment u at active)
+past_increment_is_of program u at [] sound stands actives e = absurd (cc)
+past_increment_is_of program u at (loop ∷ outer) sound stands actives e = by (nat_lt (suc loop.done) loop.count) refl
   where
     listing : List Listed
     listing = listing_of program.units u
@@ -140,18 +140,18 @@ incremented_is_of program u at (loop ∷ outer) sound stands actives e = by (nat
     within : loop.from - 1 ≤ at
     within = omega (arith, a.above)
 
-    again : (suc loop.done < loop.count) → CountsOn (length program.layout.first) (record loop { done = suc loop.done })
+    again : (suc loop.done < loop.count) → NumbersFit (length program.layout.first) (record loop { done = suc loop.done })
     again h = record { left = h; count = a.numbers.count; end = a.numbers.end; variable = a.numbers.variable }
 
     less : (x y : ℕ) → nat_lt x y ≡ true → x < y
     less x y h = grind (arith, h)
 
-    by : (b : Bool) → nat_lt (suc loop.done) loop.count ≡ b → IsOf program (cond b (record { unit = u; at = loop.from; answers = []; active = record loop { done = suc loop.done } ∷ outer; increments = false }) (beyond u at outer))
+    by : (b : Bool) → nat_lt (suc loop.done) loop.count ≡ b → IsOf program (cond b (record { unit = u; at = loop.from; answers = []; active = record loop { done = suc loop.done } ∷ outer; increments = false }) (past_statement u at outer))
     by true h =
         at_place program u loop.from (record loop { done = suc loop.done } ∷ outer) (stands_before listing loop.from at a.above stands)
         (record { at = a.at; label = a.label; begins = a.begins; from = a.from; last = a.last; above = omega arith; below = omega (arith, a.above, here); numbers = again (less (suc loop.done) loop.count h) }, actives.1)
     by false h =
-        beyond_is_of program u at outer range.terminal sound terminal (terminal_goes_on range.terminal.stmt range.ends)
+        past_statement_is_of program u at outer range.terminal sound terminal (terminal_goes_on range.terminal.stmt range.ends)
         (narrower (length program.layout.first) (loop.from - 1) loop.last at at listing outer actives.1 within (omega (arith, here)))
 
 -- the numbers with which a loop becomes active
@@ -161,8 +161,8 @@ record Begins (total : ℕ) (begun : Begun) : Type 0 where
   variable : begun.variable < total
 
 -- after a DO statement whose parameters are known stands a process of the program
-entered_is_of : (program : Program) (u at label : ℕ) (active : List ActiveLoop) (loop : Loop) (begun : Begun) → IsSound program → IsDo (listing_of program.units u) at label → loop_at program u at ≡ Some loop → Begins (length program.layout.first) begun → AreActive (length program.layout.first) (listing_of program.units u) at at active → IsOf program (entered u (active_from at loop begun) active)
-entered_is_of program u at label active loop begun sound begins_here found begins actives = by (begun.count == 0) refl
+past_do_is_of : (program : Program) (u at label : ℕ) (active : List ActiveLoop) (loop : Loop) (begun : Begun) → IsSound program → IsDo (listing_of program.units u) at label → loop_of_do program u at ≡ Some loop → Begins (length program.layout.first) begun → AreActive (length program.layout.first) (listing_of program.units u) at at active → IsOf program (past_do u (active_from at loop begun) active)
+past_do_is_of program u at label active loop begun sound begins_here found begins actives = by (begun.count == 0) refl
   where
     listing : List Listed
     listing = listing_of program.units u
@@ -180,7 +180,7 @@ entered_is_of program u at label active loop begun sound begins_here found begin
     range = nested.ended at label begins_here
 
     last : new.last ≡ terminal_at listing at label
-    last = ap (λ d. at + 1 + d) (range_of_loop program.units u at label loop begins_here (subst (λ loops. loop_that_begins loops (number_of program.units u at + 1) ≡ Some loop) sound.loops found))
+    last = ap (λ d. at + 1 + d) (range_of_loop program.units u at label loop begins_here (subst (λ loops. loop_with_range_from loops (statement_number program.units u at + 1) ≡ Some loop) sound.loops found))
 
     terminal : slice_get listing new.last ≡ Some range.terminal
     terminal = subst (λ n. slice_get listing n ≡ Some range.terminal) (sym last) range.stands
@@ -195,9 +195,9 @@ entered_is_of program u at label active loop begun sound begins_here found begin
     some : (n : ℕ) → (n == 0) ≡ false → 0 < n
     some n h = grind (arith, h)
 
-    by : (b : Bool) → (begun.count == 0) ≡ b → IsOf program (cond b (beyond u new.last active) (record { unit = u; at = new.from; answers = []; active = new ∷ active; increments = false }))
+    by : (b : Bool) → (begun.count == 0) ≡ b → IsOf program (cond b (past_statement u new.last active) (record { unit = u; at = new.from; answers = []; active = new ∷ active; increments = false }))
     by true h =
-        beyond_is_of program u new.last active range.terminal sound terminal (terminal_goes_on range.terminal.stmt range.ends)
+        past_statement_is_of program u new.last active range.terminal sound terminal (terminal_goes_on range.terminal.stmt range.ends)
         (narrower total at new.last new.last new.last listing active (outer active actives) (omega arith) (omega arith))
     by false h =
         at_place program u new.from (new ∷ active) (stands_before listing new.from new.last (omega arith) (is_some (slice_get listing new.last) range.terminal terminal)) (
@@ -225,7 +225,7 @@ found_holds P test (y ∷ xs) x all e = by (test y) (found_holds P test xs x (λ
 
 -- the entity of a name lies in storage, where all do
 pub entity_lies : (total : ℕ) (entities : List Entity) (unit : ℕ) (name : List ℕ) (entity : Entity) → All (LiesIn total) entities → entity_in entities unit name ≡ Some entity → LiesIn total entity
-entity_lies total entities unit name entity all e = found_holds (LiesIn total) (is_called unit name) entities entity all e
+entity_lies total entities unit name entity all e = found_holds (LiesIn total) (is_named unit name) entities entity all e
 
 -- both of two tests
 both : (a b : Bool) → (a && b) ≡ true → (a ≡ true) × (b ≡ true)
@@ -233,10 +233,10 @@ both true b e = (refl, e)
 both false b e = absurd (cc)
 
 -- a variable takes one unit
-one_unit : (entity : Entity) → is_scalar entity.bounds ≡ true → units_of entity ≡ 1
+one_unit : (entity : Entity) → is_scalar entity.bounds ≡ true → storage_units_of entity ≡ 1
 one_unit entity e = by entity.bounds e
   where
-    by : (bounds : List Bound) → is_scalar bounds ≡ true → units_by bounds ≡ 1
+    by : (bounds : List Bound) → is_scalar bounds ≡ true → storage_units_by bounds ≡ 1
     by [] h = refl
     by (b ∷ bounds) h = absurd (cc)
 
@@ -282,35 +282,35 @@ reading : (program : Program) (p : Process) (answers : List ℤ) → IsOf progra
 reading program p answers is_of = record { stands = is_of.stands; active = is_of.active; increments = is_of.increments }
 
 -- after each event of a process of a sound program, the process is one of the program
-pub IsOf-resumed : (program : Program) (p : Process) (answer : ℤ) → IsSound program → IsOf program p → IsOf program (resumed_by (event program p) (onward program p) p answer)
+pub IsOf-resumed : (program : Program) (p : Process) (answer : ℤ) → IsSound program → IsOf program p → IsOf program (resumed_by (event program p) (once_done program p) p answer)
 IsOf-resumed program p answer sound is_of = by p.increments refl
   where
     more : List ℤ
     more = p.answers ++ answer ∷ []
 
-    further : (listed : Listed) → listed_at program p ≡ Some listed → goes_on listed.stmt → IsOf program (beyond p.unit p.at p.active)
-    further listed e goes = beyond_is_of program p.unit p.at p.active listed sound e goes is_of.active
+    further : (listed : Listed) → listed_at program p ≡ Some listed → goes_on listed.stmt → IsOf program (past_statement p.unit p.at p.active)
+    further listed e goes = past_statement_is_of program p.unit p.at p.active listed sound e goes is_of.active
 
-    printed : (listed : Listed) → listed_at program p ≡ Some listed → goes_on listed.stmt → (d : Demand (List ℕ)) → IsOf program (resumed_by (print_event d) (beyond p.unit p.at p.active) p answer)
+    printed : (listed : Listed) → listed_at program p ≡ Some listed → goes_on listed.stmt → (d : Demand (List ℕ)) → IsOf program (resumed_by (print_event d) (past_statement p.unit p.at p.active) p answer)
     printed listed e goes (gives line rest) = further listed e goes
     printed listed e goes (wants address) = reading program p more is_of
     printed listed e goes (fails fault) = is_of
 
-    written : (listed : Listed) → listed_at program p ≡ Some listed → goes_on listed.stmt → (d : Demand Written) → IsOf program (resumed_by (write_event d) (beyond p.unit p.at p.active) p answer)
+    written : (listed : Listed) → listed_at program p ≡ Some listed → goes_on listed.stmt → (d : Demand Written) → IsOf program (resumed_by (write_event d) (past_statement p.unit p.at p.active) p answer)
     written listed e goes (gives done rest) = further listed e goes
     written listed e goes (wants address) = reading program p more is_of
     written listed e goes (fails fault) = is_of
 
-    begun : (listed : Listed) (label : ℕ) (control : LoopControl) → listed_at program p ≡ Some listed → terminal_of listed.stmt ≡ Some label → (o : Option Loop) → loop_at program p.unit p.at ≡ o → (d : Demand Begun) → begun_of program.layout p.unit control p.answers ≡ d → IsOf program (resumed_by (do_event o d) (after_begun p o d) p answer)
+    begun : (listed : Listed) (label : ℕ) (control : LoopControl) → listed_at program p ≡ Some listed → terminal_label listed.stmt ≡ Some label → (o : Option Loop) → loop_of_do program p.unit p.at ≡ o → (d : Demand Begun) → begun_of program.layout p.unit control p.answers ≡ d → IsOf program (resumed_by (do_event o d) (after_begun p o d) p answer)
     begun listed label control e names None found d h = is_of
     begun listed label control e names (Some loop) found (gives start rest) h =
-        entered_is_of program p.unit p.at label p.active loop start sound (record { listed = listed; stands = e; names = names }) found (begins_of program.layout p.unit control p.answers rest start sound.storage h) is_of.active
+        past_do_is_of program p.unit p.at label p.active loop start sound (record { listed = listed; stands = e; names = names }) found (begins_of program.layout p.unit control p.answers rest start sound.storage h) is_of.active
     begun listed label control e names (Some loop) found (wants address) h = reading program p more is_of
     begun listed label control e names (Some loop) found (fails fault) h = is_of
 
     stated : (listed : Listed) → listed_at program p ≡ Some listed → (s : Stmt) → listed.stmt ≡ s → IsOf program (resumed_by (statement_event program p.unit p.at s p.answers) (after_statement program p s) p answer)
     stated listed e (Assign target value) h = written listed e (subst goes_on (sym h) tt) (written_of program.layout p.unit target value p.answers)
-    stated listed e (Do terminal control) h = begun listed terminal control e (ap terminal_of h) (loop_at program p.unit p.at) refl (begun_of program.layout p.unit control p.answers) refl
+    stated listed e (Do terminal control) h = begun listed terminal control e (ap terminal_label h) (loop_of_do program p.unit p.at) refl (begun_of program.layout p.unit control p.answers) refl
     stated listed e Continue h = further listed e (subst goes_on (sym h) tt)
     stated listed e (Print items) h = printed listed e (subst goes_on (sym h) tt) (line_of_items program.layout p.unit items p.answers)
     stated listed e _ h = is_of
@@ -319,11 +319,11 @@ IsOf-resumed program p answer sound is_of = by p.increments refl
     here None e = is_of
     here (Some listed) e = stated listed e listed.stmt refl
 
-    turned : p.increments ≡ true → (active : List ActiveLoop) → p.active ≡ active → IsOf program (resumed_by (increment_event active) (incremented p.unit p.at active) p answer)
+    turned : p.increments ≡ true → (active : List ActiveLoop) → p.active ≡ active → IsOf program (resumed_by (increment_event active) (past_increment p.unit p.at active) p answer)
     turned e [] h = is_of
-    turned e (loop ∷ outer) h = incremented_is_of program p.unit p.at (loop ∷ outer) sound is_of.stands (subst (λ a. AreActive (length program.layout.first) (listing_of program.units p.unit) p.at p.at a) h is_of.active) (subst (λ a. IsTrue (is_terminal p.at a)) h (is_of.increments e))
+    turned e (loop ∷ outer) h = past_increment_is_of program p.unit p.at (loop ∷ outer) sound is_of.stands (subst (λ a. AreActive (length program.layout.first) (listing_of program.units p.unit) p.at p.at a) h is_of.active) (subst (λ a. IsTrue (is_terminal p.at a)) h (is_of.increments e))
 
-    by : (b : Bool) → p.increments ≡ b → IsOf program (resumed_by (cond b (increment_event p.active) (event_at program p.unit p.at (listed_at program p) p.answers)) (cond b (incremented p.unit p.at p.active) (after_listed program p (listed_at program p))) p answer)
+    by : (b : Bool) → p.increments ≡ b → IsOf program (resumed_by (cond b (increment_event p.active) (event_at program p.unit p.at (listed_at program p) p.answers)) (cond b (past_increment p.unit p.at p.active) (after_listed program p (listed_at program p))) p answer)
     by true e = turned e p.active refl
     by false e = here (listed_at program p) refl
 

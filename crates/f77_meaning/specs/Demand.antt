@@ -12,8 +12,8 @@ use Rattle.f77_ast.specs.declared.expr.Expr.TheFolds.{fold-Expr, fold-Ref}
 use Rattle.f77_ast.specs.declared.expr.Ref.{Ref}
 use Rattle.f77_ast.specs.declared.program.Entity.{Entity}
 use Rattle.f77_ast.specs.declared.program.Layout.{Layout}
-use Rattle.f77_ast.specs.declared.refusal.Fault.{Fault}
-use Rattle.f77_ast.specs.declared.refusal.Fault.TheVariants.{ZeroDivisor, Subscript}
+use Rattle.f77_ast.specs.declared.fault.Fault.{Fault}
+use Rattle.f77_ast.specs.declared.fault.Fault.TheVariants.{ZeroDivisor, Subscript}
 use Rattle.f77_ast.specs.Entity.{entity_in}
 use Rattle.f77_meaning.specs.Storage.{is_scalar, start_of, vector_extent}
 
@@ -50,9 +50,9 @@ binary_of Pow x y rest = unless_zero_divisor (power_of x y) rest
 binary_of op x y rest = gives (pos 0) rest
 
 -- the value of the unit at an address: the next answer, or it is read next
-abbrev pub taken : (address : ℕ) → List ℤ → Demand ℤ
-taken address [] = wants address
-taken address (value ∷ rest) = gives value rest
+abbrev pub unit_value : (address : ℕ) → List ℤ → Demand ℤ
+unit_value address [] = wants address
+unit_value address (value ∷ rest) = gives value rest
 
 -- the place of an element by its subscript, from 0: the first subscript is 1 (section 5.1.1.1)
 abbrev pub offset_of : (subscript : ℤ) → Option ℕ
@@ -66,8 +66,8 @@ element_at start (Some extent) (Some k) rest = if nat_lt k extent then gives (st
 element_at start _ _ rest = fails Subscript
 
 -- the address of the element of a subscript
-abbrev pub element_of : Entity → (subscript : ℤ) → List ℤ → Demand ℕ
-element_of entity subscript rest = element_at (start_of entity) (vector_extent entity.bounds) (offset_of subscript) rest
+abbrev pub element_address : Entity → (subscript : ℤ) → List ℤ → Demand ℕ
+element_address entity subscript rest = element_at (start_of entity) (vector_extent entity.bounds) (offset_of subscript) rest
 
 -- what an expression comes to on these answers
 abbrev pub Evaluation : Type 0
@@ -78,20 +78,20 @@ abbrev pub Location : Type 0
 Location = List ℤ → Demand ℕ
 
 -- the address of a variable
-abbrev pub variable_of : Entity → List ℤ → Demand ℕ
-variable_of entity rest = if is_scalar entity.bounds then gives (start_of entity) rest else fails Subscript
+abbrev pub variable_address : Entity → List ℤ → Demand ℕ
+variable_address entity rest = if is_scalar entity.bounds then gives (start_of entity) rest else fails Subscript
 
--- the unit of a variable, or of an element: the subscript is evaluated, and then checked; other references have no
--- meaning yet, and no accepted program has one
+-- the unit of a variable, or of an element: the subscript is evaluated, and then checked; any other list of
+-- subscripts is fault 2, and a substring's bounds aren't looked at yet; no accepted program has either
 abbrev pub located : Option Entity → Option (List Evaluation) → Location
-located (Some entity) None answers = variable_of entity answers
-located (Some entity) (Some (subscript ∷ [])) answers = and_then (subscript answers) (λ s rest. element_of entity s rest)
+located (Some entity) None answers = variable_address entity answers
+located (Some entity) (Some (subscript ∷ [])) answers = and_then (subscript answers) (λ s rest. element_address entity s rest)
 located _ _ answers = fails Subscript
 
 -- one level: the left operand before the right one; a reference reads its subscript, and then its unit
 abbrev pub expr_step : Expr-F Evaluation (Unit {0}) Location → Evaluation
 expr_step (layer.Int value) answers = gives value answers
-expr_step (layer.Ref place) answers = and_then (place answers) taken
+expr_step (layer.Ref place) answers = and_then (place answers) unit_value
 expr_step (layer.Paren inner) answers = inner answers
 expr_step (layer.Unary op operand) answers = and_then (operand answers) (λ x rest. unary_of op x rest)
 expr_step (layer.Binary op left right) answers = and_then (left answers) (λ x rest. and_then (right rest) (λ y more. binary_of op x y more))

@@ -4,7 +4,7 @@ use Rattle.f77_ast.specs.Entity.{entity_in}
 use Rattle.f77_ast.specs.declared.expr.Expr.{Expr}
 use Rattle.f77_ast.specs.declared.program.Layout.{Layout}
 use Rattle.f77_ast.specs.declared.program.Loop.{Loop}
-use Rattle.f77_ast.specs.declared.refusal.Fault.TheVariants.{ZeroIncrement, DoRange}
+use Rattle.f77_ast.specs.declared.fault.Fault.TheVariants.{ZeroIncrement, DoRange}
 use Rattle.f77_ast.specs.declared.stmt.LoopControl.{LoopControl}
 use Rattle.f77_meaning.specs.Demand.{Demand, gives, fails, and_then, demand_of, located}
 use Rattle.f77_meaning.specs.Process.{ActiveLoop}
@@ -59,14 +59,14 @@ module _ (layout : Layout) (unit : ℕ) where
   -- the incrementation parameter: 1 where it is left out
   abbrev pub increment_of : Option Expr → List ℤ → Demand ℤ
   increment_of None answers = gives (pos 1) answers
-  increment_of (Some step) answers = demand_of layout unit step answers
+  increment_of (Some increment) answers = demand_of layout unit increment answers
 
   -- the three parameters, from the left
   abbrev pub parameters_of : LoopControl → List ℤ → Demand Parameters
   parameters_of control answers =
       and_then (demand_of layout unit control.first answers) (λ m1 rest.
       and_then (demand_of layout unit control.last rest) (λ m2 more.
-      and_then (increment_of control.step more) (λ m3 left. gives (record { first = m1; last = m2; increment = m3 }) left)))
+      and_then (increment_of control.increment more) (λ m3 left. gives (record { first = m1; last = m2; increment = m3 }) left)))
 
   -- what a DO statement comes to: its parameters are read, and then its variable's unit is the one to write
   abbrev pub begun_of : LoopControl → List ℤ → Demand Begun

@@ -1,7 +1,7 @@
 -- What a process does in one step (ANSI X3.9-1978, sections 10 to 12 and 15).
 use Rattle.std.specs.Prelude.{ℕ, ℤ, List, Option}
 use Rattle.hyb_base.specs.declared.ops.RedOp.{RedOp}
-use Rattle.f77_ast.specs.declared.refusal.Fault.{Fault}
+use Rattle.f77_ast.specs.declared.fault.Fault.{Fault}
 use Rattle.f77_ast.specs.declared.step.Control.{Control}
 
 -- one step: a unit of storage is read or written, control moves, a line is printed, or the run stops.

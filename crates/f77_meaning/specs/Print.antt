@@ -4,10 +4,10 @@ use Rattle.hyb_base.specs.Decimal.{decimal_of}
 use Rattle.f77_ast.specs.declared.program.Entity.{Entity}
 use Rattle.f77_ast.specs.declared.program.Layout.{Layout}
 use Rattle.f77_ast.specs.declared.stmt.Item.{Item, Plain}
-use Rattle.f77_ast.specs.declared.refusal.Fault.TheVariants.{LineLimit}
+use Rattle.f77_ast.specs.declared.fault.Fault.TheVariants.{LineLimit}
 use Rattle.f77_meaning.specs.Arrays.{array_named}
-use Rattle.f77_meaning.specs.Demand.{Demand, gives, fails, and_then, demand_of, Evaluation, taken}
-use Rattle.f77_meaning.specs.Storage.{start_of, units_of}
+use Rattle.f77_meaning.specs.Demand.{Demand, gives, fails, and_then, demand_of, Evaluation, unit_value}
+use Rattle.f77_meaning.specs.Storage.{start_of, storage_units_of}
 
 -- the greatest number of bytes of a line
 abbrev pub line_limit : ℕ
@@ -23,13 +23,13 @@ abbrev pub with_value : List ℕ → Demand ℤ → Demand (List ℕ)
 with_value line value = and_then value (λ v rest. with_item line (decimal_of v) rest)
 
 -- the line after so many units from an address on: each is read, and then goes into the line
-abbrev pub units_from : (address count : ℕ) → List ℕ → List ℤ → Demand (List ℕ)
-units_from address zero line answers = gives line answers
-units_from address (suc count) line answers = and_then (with_value line (taken address answers)) (λ more rest. units_from (address + 1) count more rest)
+abbrev pub after_units : (address count : ℕ) → List ℕ → List ℤ → Demand (List ℕ)
+after_units address zero line answers = gives line answers
+after_units address (suc count) line answers = and_then (with_value line (unit_value address answers)) (λ more rest. after_units (address + 1) count more rest)
 
 -- the line after an array, whose elements are items in the order of their storage units (section 5.2.5), or else after a value
 abbrev pub array_or_value : Option Entity → Evaluation → List ℕ → List ℤ → Demand (List ℕ)
-array_or_value (Some array) value line answers = units_from (start_of array) (units_of array) line answers
+array_or_value (Some array) value line answers = after_units (start_of array) (storage_units_of array) line answers
 array_or_value None value line answers = with_value line (value answers)
 
 -- a line without items is one blank
@@ -40,16 +40,16 @@ or_blank (byte ∷ bytes) = byte ∷ bytes
 module _ (layout : Layout) (unit : ℕ) where
   -- the line after one item, on these answers: an array's name stands for its elements, and another expression for its
   -- value; an implied DO has no meaning yet
-  abbrev pub item_of : Item → List ℕ → List ℤ → Demand (List ℕ)
-  item_of (Plain expr) line answers = array_or_value (array_named layout unit expr) (demand_of layout unit expr) line answers
-  item_of _ line answers = gives line answers
+  abbrev pub after_item : Item → List ℕ → List ℤ → Demand (List ℕ)
+  after_item (Plain expr) line answers = array_or_value (array_named layout unit expr) (demand_of layout unit expr) line answers
+  after_item _ line answers = gives line answers
 
   -- the line after some items, from left to right
-  abbrev pub items_of : List Item → List ℕ → List ℤ → Demand (List ℕ)
-  items_of [] line answers = gives line answers
-  items_of (item ∷ items) line answers = and_then (item_of item line answers) (λ more rest. items_of items more rest)
+  abbrev pub after_items : List Item → List ℕ → List ℤ → Demand (List ℕ)
+  after_items [] line answers = gives line answers
+  after_items (item ∷ items) line answers = and_then (after_item item line answers) (λ more rest. after_items items more rest)
 
   -- the line of a PRINT: one blank and the text for each item, and one blank where there is no item, as where all items are
   -- arrays without elements
   abbrev pub line_of_items : List Item → List ℤ → Demand (List ℕ)
-  line_of_items items answers = and_then (items_of items [] answers) (λ line rest. gives (or_blank line) rest)
+  line_of_items items answers = and_then (after_items items [] answers) (λ line rest. gives (or_blank line) rest)

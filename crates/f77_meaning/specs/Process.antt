@@ -45,9 +45,9 @@ abbrev pub listed_at : Program → Process → Option Listed
 listed_at program p = statement_at program p.unit p.at
 
 -- the initial line of that statement
-abbrev pub line_of : Option Listed → ℕ
-line_of None = 0
-line_of (Some listed) = listed.card.line
+abbrev pub source_line : Option Listed → ℕ
+source_line None = 0
+source_line (Some listed) = listed.card.line
 
 -- whether a statement is executable: all but PROGRAM, SUBROUTINE, FUNCTION, the specification statements and DATA
 -- (section 7)

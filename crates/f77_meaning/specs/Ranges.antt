@@ -3,7 +3,7 @@ use Rattle.std.specs.Prelude.{◌≡◌, ℕ, ◌+◌, ◌<◌, ◌≤◌, Bool,
 use Rattle.f77_ast.specs.declared.program.Listed.{Listed}
 use Rattle.f77_ast.specs.declared.stmt.Stmt.{Stmt}
 use Rattle.f77_ast.specs.declared.stmt.Stmt as stmt
-use Rattle.f77_meaning.specs.Loops.{terminal_of, distance_to}
+use Rattle.f77_meaning.specs.Loops.{terminal_label, distance_to}
 use Rattle.f77_meaning.specs.Process.{is_executable}
 
 -- whether a statement may be the terminal statement of a DO-loop: it is executable, and no unconditional GO TO, arithmetic
@@ -25,13 +25,13 @@ may_end_range other = is_executable other
 pub record IsDo (listing : List Listed) (at label : ℕ) : Type 0 where
   pub listed : Listed
   pub stands : slice_get listing at ≡ Some listed
-  pub names : terminal_of listed.stmt ≡ Some label
+  pub names : terminal_label listed.stmt ≡ Some label
 
 -- the place of its terminal statement: the first executable statement behind it that has the label
 abbrev pub terminal_at : List Listed → (at label : ℕ) → ℕ
 terminal_at listing at label = at + 1 + distance_to label (drop (at + 1) listing)
 
--- there is one, and it may be one
+-- there is a terminal statement for the label, and it may end a range
 pub record HasRange (listing : List Listed) (at label : ℕ) : Type 0 where
   pub terminal : Listed
   pub stands : slice_get listing (terminal_at listing at label) ≡ Some terminal

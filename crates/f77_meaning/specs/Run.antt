@@ -1,10 +1,10 @@
 -- The sequential run of a program.
 use Rattle.std.specs.Prelude.{ℕ, zero, suc, ◌+◌, ℤ, pos, List, [], ◌∷◌, slice_index_or, slice_set}
 use Rattle.f77_ast.specs.declared.program.Program.{Program}
-use Rattle.f77_ast.specs.declared.refusal.Fault.{Fault}
+use Rattle.f77_ast.specs.declared.fault.Fault.{Fault}
 use Rattle.f77_meaning.specs.Event.{Event, reads, writes, moves, prints, ends, faults}
-use Rattle.f77_meaning.specs.Process.{Process, first_process, listed_at, line_of}
-use Rattle.f77_meaning.specs.Step.{event, onward, resumed_by}
+use Rattle.f77_meaning.specs.Process.{Process, first_process, listed_at, source_line}
+use Rattle.f77_meaning.specs.Step.{event, once_done, resumed_by}
 
 -- how a run ends: at its end, by a fault at a statement's line, or with its steps spent
 pub data End : Type 0 where
@@ -32,7 +32,7 @@ abbrev pub printed : List ℕ → Run → Run
 printed line run = record { lines = line ∷ run.lines; store = run.store; steps = 1 + run.steps; end = run.end }
 
 -- the run of an event and of what comes after it: a read is answered by the store, a write changes it, and
--- nothing else touches it; each event is one step. The process is this one once the event is done
+-- nothing else touches it; each event is one step. The process is `done` once the event is done
 abbrev pub after : Event → (done : Process) → Process → List ℤ → (line : ℕ) → (Process → List ℤ → Run) → Run
 after (reads address by) done p store line go = one_more (go (resumed_by (reads address by) done p (slice_index_or store address (pos 0))) store)
 after (writes address value by control) done p store line go = one_more (go (resumed_by (writes address value by control) done p (pos 0)) (slice_set store address value))
@@ -45,7 +45,7 @@ after (faults fault) done p store line go = stopped store 1 (Faulted fault line)
 abbrev pub run_from : Program → Process → List ℤ → ℕ → Run
 run_from program p store zero = stopped store 0 Spent
 run_from program p store (suc left) =
-    after (event program p) (onward program p) p store (line_of (listed_at program p)) (λ next store. run_from program next store left)
+    after (event program p) (once_done program p) p store (source_line (listed_at program p)) (λ next store. run_from program next store left)
 
 -- the sequential run on an input, which nothing reads so far, for so many steps at most
 abbrev pub sequential_run : Program → (input : List ℕ) → (steps : ℕ) → Run

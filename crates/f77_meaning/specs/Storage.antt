@@ -15,14 +15,14 @@ use Rattle.f77_ast.specs.declared.program.Region.{Region}
 use Rattle.f77_ast.specs.declared.specification.Bound.{Bound}
 
 -- the number that digits stand for; other bounds have no meaning yet
-abbrev pub digits_of : Expr-F Expr Part Ref → ℕ
-digits_of (layer.Int (pos n)) = n
-digits_of _ = 0
+abbrev pub bound_value : Expr-F Expr Part Ref → ℕ
+bound_value (layer.Int (pos n)) = n
+bound_value _ = 0
 
 -- the upper bound of a dimension; a last bound `*` has no meaning yet
 abbrev pub upper_of : Option Expr → ℕ
 upper_of None = 0
-upper_of (Some bound) = digits_of (out-Expr bound)
+upper_of (Some bound) = bound_value (out-Expr bound)
 
 -- how many elements a dimension has: its subscripts go from 1 to its upper bound (section 5.1.1.1); a lower bound has
 -- no meaning yet
@@ -31,13 +31,13 @@ extent_of bound = upper_of bound.high
 
 -- how many storage units an entity of INTEGER takes, by its dimensions: a variable takes one, an array of one
 -- dimension one for each element (section 5.2.5); more dimensions have no meaning yet
-abbrev pub units_by : List Bound → ℕ
-units_by [] = 1
-units_by (bound ∷ []) = extent_of bound
-units_by _ = 0
+abbrev pub storage_units_by : List Bound → ℕ
+storage_units_by [] = 1
+storage_units_by (bound ∷ []) = extent_of bound
+storage_units_by _ = 0
 
-abbrev pub units_of : Entity → ℕ
-units_of entity = units_by entity.bounds
+abbrev pub storage_units_of : Entity → ℕ
+storage_units_of entity = storage_units_by entity.bounds
 
 -- the first address of what is stored
 abbrev pub start_by : Place → ℕ
@@ -67,14 +67,14 @@ is_stored (Stored address) = true
 is_stored _ = false
 
 -- how many storage units some entities take
-abbrev pub units_of_all : List Entity → ℕ
-units_of_all [] = 0
-units_of_all (entity ∷ entities) = units_of entity + units_of_all entities
+abbrev pub storage_units_of_all : List Entity → ℕ
+storage_units_of_all [] = 0
+storage_units_of_all (entity ∷ entities) = storage_units_of entity + storage_units_of_all entities
 
 -- an entity lies in storage of so many units
 pub record LiesIn (total : ℕ) (entity : Entity) : Type 0 where
   pub stored : is_stored entity.place ≡ true
-  pub within : start_of entity + units_of entity ≤ total
+  pub within : start_of entity + storage_units_of entity ≤ total
 
 -- there is an opening value for each unit of storage, each entity lies in it, and addresses have 32 bits
 pub record IsStorage (layout : Layout) : Type 0 where
@@ -84,13 +84,13 @@ pub record IsStorage (layout : Layout) : Type 0 where
 
 -- the region of an entity that overlaps no other
 abbrev pub region_of : Entity → Region
-region_of entity = record { start = start_of entity; len = units_of entity }
+region_of entity = record { start = start_of entity; len = storage_units_of entity }
 
 -- the layout of a file of one program unit without COMMON and EQUIVALENCE, for all of its entities at once: each stands
 -- where those before it end and is a region of its own, and each storage unit is 0 before the first step. Which entities
 -- there are, and in which order, is said where the program is made.
 pub record IsLaidOut (layout : Layout) : Type 0 where
-  pub placed : (k : ℕ) (entity : Entity) → slice_get layout.entities k ≡ Some entity → entity.place ≡ Stored (units_of_all (take k layout.entities))
+  pub placed : (k : ℕ) (entity : Entity) → slice_get layout.entities k ≡ Some entity → entity.place ≡ Stored (storage_units_of_all (take k layout.entities))
   pub regions : layout.regions ≡ map region_of layout.entities
-  pub total : layout.total ≡ units_of_all layout.entities
+  pub total : layout.total ≡ storage_units_of_all layout.entities
   pub first : layout.first ≡ repeat layout.total (pos 0 ∷ [])

@@ -1,6 +1,6 @@
 //! How control goes through the statements of a unit and its DO-loops (ANSI X3.9-1978, sections 11.10.2 to 11.10.7).
 ghost use Rattle.std.specs.Prelude.{◌≡◌, ◌+◌, ◌^◌, ◌<◌, ◌≤◌, ◌∷◌, [], length};
-ghost use Rattle.f77_meaning.specs.Step.{beyond, entered, incremented, is_terminal};
+ghost use Rattle.f77_meaning.specs.Step.{past_statement, past_do, past_increment, is_terminal};
 ghost use Rattle.f77_machine.specs.Active.{active_of, actives_of};
 ghost use Rattle.f77_machine.specs.Process.{process_of, KeepsPlace};
 
@@ -14,11 +14,11 @@ impl Process {
     pub fn enter(&mut self, program: &Program, new: ActiveLoop)
         requires room { length self.old.active.items < self.old.depth }
         requires after { new.last + 1 < 2 ^ 64 }
-        ensures process { process_of self.new ≡ entered self.old.unit (active_of new) (actives_of self.old.active.items) }
+        ensures process { process_of self.new ≡ past_do self.old.unit (active_of new) (actives_of self.old.active.items) }
         ensures place { KeepsPlace program.now self.old self.new }
     {
         if new.count == 0 {
-            self.go_beyond(program, new.last);
+            self.go_past(program, new.last);
         } else {
             self.active.push_reserved(new);
             self.stand_at(program, new.from, false);
@@ -31,22 +31,22 @@ impl Process {
         requires room { length self.old.active.items < self.old.depth }
         requires left { innermost.done < innermost.count }
         requires after { self.old.at + 1 < 2 ^ 64 }
-        ensures process { process_of self.new ≡ incremented self.old.unit self.old.at (active_of innermost ∷ actives_of self.old.active.items) }
+        ensures process { process_of self.new ≡ past_increment self.old.unit self.old.at (active_of innermost ∷ actives_of self.old.active.items) }
         ensures place { KeepsPlace program.now self.old self.new }
     {
         if innermost.done + 1 < innermost.count {
             self.active.push_reserved(innermost.after_iteration());
             self.stand_at(program, innermost.from, false);
         } else {
-            self.go_beyond(program, self.at);
+            self.go_past(program, self.at);
         }
     }
 
     /// The statement at a place is done: where that is the terminal statement of the innermost active loop, this
     /// loop's incrementation processing comes next (section 11.10.6), and else the next statement.
-    pub fn go_beyond(&mut self, program: &Program, at: usize)
+    pub fn go_past(&mut self, program: &Program, at: usize)
         requires after { at + 1 < 2 ^ 64 }
-        ensures process { process_of self.new ≡ beyond self.old.unit at (actives_of self.old.active.items) }
+        ensures process { process_of self.new ≡ past_statement self.old.unit at (actives_of self.old.active.items) }
         ensures place { KeepsPlace program.now self.old self.new }
     {
         if self.is_terminal(at) {

@@ -1,5 +1,5 @@
 use Rattle.std.proofs.Common.{◌≡◌, ◌+◌, ◌<◌, length, drop}
-use Rattle.f77_loops.specs.Turn.{AreRangesOf, loops_with}
+use Rattle.f77_loops.specs.Adding.{AreRangesOf, loops_with}
 use Rattle.f77_loops.proofs.loops.add_loops.Given as goal
 
 abbrev pub invariant-loop-listed : goal.invariant-loop-listed

@@ -1,9 +1,9 @@
 use Rattle.std.proofs.Common.{◌≡◌, ◌+◌, ◌≤◌, drop}
-use Rattle.f77_meaning.specs.Loops.{statements_of}
+use Rattle.f77_meaning.specs.Loops.{statement_count}
 use Rattle.f77_loops.proofs.tests.has_few_statements.Given as goal
 
 abbrev pub invariant-loop-unit : goal.invariant-loop-unit
 invariant-loop-unit l = record {
-  count : l.count + statements_of (drop l.unit-index l.all) ≡ statements_of l.all;
+  count : l.count + statement_count (drop l.unit-index l.all) ≡ statement_count l.all;
   few : l.count ≤ 20000;
 }

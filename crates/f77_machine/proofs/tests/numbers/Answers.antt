@@ -5,7 +5,7 @@ use Rattle.f77_ast.specs.declared.expr.Expr.TheOpen as layer
 use Rattle.f77_ast.specs.declared.expr.Expr.TheVariants.{rolls-Int}
 use Rattle.f77_ast.specs.declared.program.Layout.{Layout}
 use Rattle.f77_ast.specs.declared.stmt.Item.{Item, Plain}
-use Rattle.f77_meaning.specs.Sound.{resolves, resolves_step, resolves_part, resolves_ref, item_resolves, items_resolve}
+use Rattle.f77_meaning.specs.Resolves.{resolves, resolves_step, resolves_part, resolves_ref, item_resolves, items_resolve}
 use Rattle.f77_meaning.proofs.Sound.{plain_resolves}
 use Rattle.f77_machine.proofs.tests.numbers.Goals as goal
 

@@ -2,10 +2,10 @@ use Rattle.std.proofs.Common.{◌≡◌, ℕ, zero, suc, ◌+◌, ◌<◌, ◌^�
 use Rattle.std.proofs.lemmas.List.{append-nil}
 use Rattle.f77_ast.specs.declared.program.Layout.{Layout}
 use Rattle.f77_ast.specs.declared.program.Listed.{Listed}
-use Rattle.f77_meaning.specs.Loops.{loops_in, loops_of, terminal_of}
+use Rattle.f77_meaning.specs.Loops.{loops_in, loops_of, terminal_label}
 use Rattle.f77_meaning.specs.Ranges.{IsDo, RangesNest}
 use Rattle.f77_meaning.proofs.Sound.{one_unit_is_sound}
-use Rattle.f77_meaning.specs.Sound.{statement_resolves}
+use Rattle.f77_meaning.specs.Resolves.{statement_resolves}
 use Rattle.f77_machine.proofs.tests.printing.Goals as goal
 
 -- what holds of two statements holds of each
@@ -15,7 +15,7 @@ of_two layout first last h k (suc zero) d within = k
 of_two layout first last h k (suc (suc n)) d within = absurd (omega (arith, within))
 
 -- neither of two statements that name no label is a DO statement
-not_one_of_two : (first last : Listed) → terminal_of first.stmt ≡ None → terminal_of last.stmt ≡ None → (at label : ℕ) → IsDo (first ∷ last ∷ []) at label → ⊥
+not_one_of_two : (first last : Listed) → terminal_label first.stmt ≡ None → terminal_label last.stmt ≡ None → (at label : ℕ) → IsDo (first ∷ last ∷ []) at label → ⊥
 not_one_of_two first last h k zero label d = absurd (cc)
 not_one_of_two first last h k (suc zero) label d = absurd (cc)
 not_one_of_two first last h k (suc (suc at)) label d = absurd (cc)
@@ -28,7 +28,7 @@ none_nests listing no_do = record {
 }
 
 -- two statements that name no label make no loop
-no_loops : (first last : Listed) → terminal_of first.stmt ≡ None → terminal_of last.stmt ≡ None → loops_in 0 1 1 (first ∷ last ∷ []) ≡ []
+no_loops : (first last : Listed) → terminal_label first.stmt ≡ None → terminal_label last.stmt ≡ None → loops_in 0 1 1 (first ∷ last ∷ []) ≡ []
 no_loops first last h k = cc
 
 pub returns : goal.returns
@@ -39,8 +39,8 @@ returns c =
     let end = subst (λ s. IsTrue (statement_resolves layout 0 s)) (sym c.listed-2.ensures) refl in
     let resolved = subst (All (λ listed. IsTrue (statement_resolves layout 0 listed.stmt))) (sym listing) (of_two layout c.listed.result c.listed-2.result print end) in
     let units = rw c.new-units.ensures at c.in_ok-push-3.ensures.ok in
-    let first = ap terminal_of c.listed.ensures in
-    let last = ap terminal_of c.listed-2.ensures in
+    let first = ap terminal_label c.listed.ensures in
+    let last = ap terminal_label c.listed-2.ensures in
     let ranges = subst RangesNest (sym listing) (none_nests (c.listed.result ∷ c.listed-2.result ∷ []) (not_one_of_two c.listed.result c.listed-2.result first last)) in
     let few = subst (λ xs. length xs + 1 < 2 ^ 32) (sym listing) (omega arith) in
     let loops = c.new-2.ensures ∙ sym (no_loops c.listed.result c.listed-2.result first last) ∙ ap (λ xs. loops_in 0 1 1 xs) (sym listing) ∙ sym (append-nil _) ∙ ap loops_of (sym units) in

@@ -1,6 +1,6 @@
 use Rattle.std.proofs.Common.{ℤ, subst, sym, ap, ◌≤◌, length, []}
 use Rattle.f77_meaning.specs.Event.{Event}
-use Rattle.f77_meaning.specs.Next.{answer_of}
+use Rattle.f77_meaning.specs.StepOutcome.{answer_of}
 use Rattle.f77_meaning.specs.Process as meaning
 use Rattle.f77_meaning.specs.Sound.{IsOf}
 use Rattle.f77_meaning.specs.Step.{increment_event, statement_event}

@@ -6,11 +6,11 @@ use Rattle.f77_ast.specs.declared.step.Stepped.{Stepped}
 use Rattle.f77_ast.specs.declared.step.Stepped.TheVariants.{Read, Wrote, Inner, Printed, Ended, Faulted}
 use Rattle.f77_meaning.specs.Event.{Event, reads, writes, moves, prints, ends, faults}
 use Rattle.f77_meaning.specs.Process.{Process}
-use Rattle.f77_meaning.specs.Step.{event, onward, resumed_by}
+use Rattle.f77_meaning.specs.Step.{event, resumed, resumed_by}
 
 -- what a step comes to: what it answers, the process after it, the storage, the number of reads so far and the line
 -- that PRINT builds
-pub record Next : Type 0 where
+pub record StepOutcome : Type 0 where
   pub stepped : Stepped
   pub process : Process
   pub store : List ℤ
@@ -46,9 +46,9 @@ abbrev pub line_after : Event → List ℕ → List ℕ
 line_after (prints text) line = text
 line_after _ line = line
 
--- what an event comes to, where the process is this one once the event is done
-abbrev pub next_by : Event → (done : Process) → Process → (store : List ℤ) → (count : ℕ) → (line : List ℕ) → Next
-next_by did done p store count line = record {
+-- what an event comes to: the process is `done` once the event is done
+abbrev pub outcome_by : Event → (done : Process) → Process → (store : List ℤ) → (count : ℕ) → (line : List ℕ) → StepOutcome
+outcome_by did done p store count line = record {
   stepped = stepped_of did;
   process = resumed_by did done p (answer_of did store);
   store = store_after did store;
@@ -57,9 +57,15 @@ next_by did done p store count line = record {
 }
 
 -- what the next step of a process comes to
-abbrev pub next : Program → Process → (store : List ℤ) → (count : ℕ) → (line : List ℕ) → Next
-next program p store count line = next_by (event program p) (onward program p) p store count line
+abbrev pub outcome_of_step : Program → Process → (store : List ℤ) → (count : ℕ) → (line : List ℕ) → StepOutcome
+outcome_of_step program p store count line = record {
+  stepped = stepped_of (event program p);
+  process = resumed program p (answer_of (event program p) store);
+  store = store_after (event program p) store;
+  reads = reads_after (event program p) count;
+  line = line_after (event program p) line;
+}
 
 -- what a step came to, put together
-abbrev pub next_of : Stepped → Process → (store : List ℤ) → (count : ℕ) → (line : List ℕ) → Next
-next_of stepped process store count line = record { stepped = stepped; process = process; store = store; reads = count; line = line }
+abbrev pub outcome_from : Stepped → Process → (store : List ℤ) → (count : ℕ) → (line : List ℕ) → StepOutcome
+outcome_from stepped process store count line = record { stepped = stepped; process = process; store = store; reads = count; line = line }

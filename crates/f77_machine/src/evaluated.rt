@@ -1,10 +1,10 @@
 //! What an evaluation comes to.
 
-use f77_ast::refusal::Fault;
+use f77_ast::fault::Fault;
 
-/// What an evaluation on a list of answers comes to: the values that a statement has read so far, in order.
+/// What an evaluation comes to on a list of answers, which are the values that a statement has read so far, in order.
 #[derive(Clone, Copy, Debug)]
-pub enum Answer<'a, T> {
+pub enum Evaluated<'a, T> {
     /// A value, and the answers that are left.
     Gives(T, &'a [i64]),
     /// The address of the unit that is read next.

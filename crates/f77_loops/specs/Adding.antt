@@ -15,6 +15,6 @@ abbrev pub loops_with : (unit number : ℕ) → List Listed → List Loop → Li
 loops_with unit number listing loops = loops ++ loops_in unit (length loops + 1) number listing
 
 -- a statement is done: the ranges and loops before it, and those after it, with the statements that follow
-pub record IsDone (unit number : ℕ) (listed : Listed) (following : List Listed) (loops : List Loop) (ranges' : List Range) (loops' : List Loop) : Type 0 where
+pub record IsAdded (unit number : ℕ) (listed : Listed) (following : List Listed) (loops : List Loop) (ranges' : List Range) (loops' : List Loop) : Type 0 where
   pub left : AreRangesOf (number + 1) following ranges'
   pub added : loops_with unit (number + 1) following loops' ≡ loops_with unit number (listed ∷ following) loops
