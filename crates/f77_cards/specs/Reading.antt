@@ -32,7 +32,7 @@ first_code inside line = if has_tab line then Some 1 else (if has_bad_character 
 abbrev pub continuation_code : ℕ → Bool → Line → Option ℕ
 continuation_code k inside line = option_or (first_code inside line) (if is_one_too_many k then Some 4 else None)
 
--- how many lines there are after one more
+-- the number of continuation lines after one more; it stays at 2^32 - 1
 abbrev pub one_more : ℕ → ℕ
 one_more k = min (k + 1) (2 ^ 32 - 1)
 

@@ -1,5 +1,5 @@
--- The rules on single lines that are no comments, each with the code of its refusal. The rules on statements, codes 5 and 6,
--- stand with the cards.
+-- Codes 1 to 4: what a line breaks by its own columns, by whether its column 7 is inside a character constant, and by its
+-- number among its statement's continuation lines. Comment lines break none. Codes 5 and 6 stand in `Cards`.
 use Rattle.std.specs.Prelude.{ℕ, Bool, false, not, ◌&&◌, ◌||◌, ◌==◌, nat_lt, List, [], ◌∷◌, codes, if◌then◌else◌}
 use Rattle.std.specs.Char.{is_ascii_digit, is_ascii_alphabetic}
 use Rattle.std.specs.List.{list_all, list_any}

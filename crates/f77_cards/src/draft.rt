@@ -20,7 +20,7 @@ pub struct Draft {
     pub card: Card,
     /// Whether its text so far ends inside a character constant.
     pub inside: bool,
-    /// The number of its continuation lines so far, which stands still at the type's end.
+    /// The number of its continuation lines so far; it stays at 2^32 - 1.
     pub continuations: u32,
     /// The first refusal of its continuation lines so far.
     pub broken: Option<Refusal>,

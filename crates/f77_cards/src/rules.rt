@@ -1,4 +1,4 @@
-//! The rules on single lines that are no comments, each with the code of its refusal.
+//! The codes 1 to 6, and the rules on lines that are no comments, codes 1 to 4 and 6.
 ghost use Rattle.std.specs.Prelude.{◌≡◌, false};
 ghost use Rattle.f77_cards.specs.Rules.{has_tab, may_stand_outside, may_stand_inside, may_stand, has_bad_character, is_digit_or_blank, is_zero_or_blank, is_bad_label, has_bad_label};
 ghost use Rattle.std.specs.List.{list_all};

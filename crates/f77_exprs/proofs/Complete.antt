@@ -9,8 +9,8 @@ use Rattle.f77_exprs.specs.declared.operators.Infix.TheVariants as between
 use Rattle.f77_exprs.specs.declared.operators.Prefix.{Prefix}
 use Rattle.f77_exprs.specs.declared.operators.Prefix.TheVariants as before
 use Rattle.f77_exprs.specs.Operators.{Text, spelling, below, prefix_operator, prefix_spelling, under, infixes, prefixes, Grouping, to_left, to_right, once, grouping, left_level, right_level, begins, is_here, is_before, first_passing}
-use Rattle.f77_exprs.specs.Spelling.{whole}
-use Rattle.f77_exprs.specs.Reading.{Outcome, Parser, and_then, ◌>>=◌, pure, sees, eat, eat_word, skip, next_prefix, prefixed, binary, digits, alphanumerics, more_operands, power, one_more, rest_of, primary, level, expr_within}
+use Rattle.f77_exprs.specs.Spelling.{top_level}
+use Rattle.f77_exprs.specs.Reading.{Outcome, Parser, and_then, ◌>>=◌, pure, sees, eat, eat_word, skip, next_prefix, prefixed, binary, digits, alphanumerics, more_operands, power, one_operator_at_most, rest_of, primary, level, expr_within}
 use Rattle.f77_exprs.proofs.Words.{drop_all, some_spelling}
 use Rattle.f77_exprs.proofs.Turns.{no_turn, one_turn}
 use Rattle.f77_exprs.proofs.Powers.{power_ends, power_one}
@@ -88,16 +88,16 @@ found between.Eqv t h = refl
 found between.Neqv t h = refl
 
 -- no sign of no level
-pub closing : (m : Text) → Free whole (41 ∷ m)
+pub closing : (m : Text) → Free top_level (41 ∷ m)
 closing m = (refl, (refl, (refl, (refl, (refl, (refl, (refl, (refl, (refl, (refl, refl, refl, refl))))))))))
 
-pub comma : (m : Text) → Free whole (44 ∷ m)
+pub comma : (m : Text) → Free top_level (44 ∷ m)
 comma m = (refl, (refl, (refl, (refl, (refl, (refl, (refl, (refl, (refl, (refl, refl, refl, refl))))))))))
 
-pub colon : (m : Text) → Free whole (58 ∷ m)
+pub colon : (m : Text) → Free top_level (58 ∷ m)
 colon m = (refl, (refl, (refl, (refl, (refl, (refl, (refl, (refl, (refl, (refl, refl, refl, refl))))))))))
 
-pub ending : Free whole []
+pub ending : Free top_level []
 ending = (refl, (refl, (refl, (refl, (refl, (refl, (refl, (refl, (refl, (refl, refl, refl, refl))))))))))
 
 -- ---- operators at the head of a level
@@ -177,12 +177,12 @@ level_read zero a s h d le r free = h d le r free
 level_read (suc k) a s h d le r free = is_read k (grouping (suc k)) a s refl h d le r free
 
 -- a level of one operator at most
-one_ends : (item : Parser Expr) (k : ℕ) (a : Expr) (r : Text) → Found k r ≡ None → one_more item k a r ≡ Some (a, r)
-unfolding one_more
+one_ends : (item : Parser Expr) (k : ℕ) (a : Expr) (r : Text) → Found k r ≡ None → one_operator_at_most item k a r ≡ Some (a, r)
+unfolding one_operator_at_most
 one_ends item k a r e = rw e refl
 
-one_goes : (item : Parser Expr) (k : ℕ) (o : Infix) (a b : Expr) (i r : Text) → Found k (spelling o ++ i) ≡ Some o → item i ≡ Some (b, r) → one_more item k a (spelling o ++ i) ≡ Some (binary o a b, r)
-unfolding one_more
+one_goes : (item : Parser Expr) (k : ℕ) (o : Infix) (a b : Expr) (i r : Text) → Found k (spelling o ++ i) ≡ Some o → item i ≡ Some (b, r) → one_operator_at_most item k a (spelling o ++ i) ≡ Some (binary o a b, r)
+unfolding one_operator_at_most
 one_goes item k o a b i r e f = rw (e, drop_all, f) refl
 
 -- ---- an operand of the level below
@@ -202,7 +202,7 @@ lower_step to_right k a s g bare h = λ d le r free.
 lower_step once k a s g bare h = λ d le r free.
     without_head d k (s ++ r) (headless k once g (λ e. cc))
     ∙ ap (λ x. and_then (At d k (s ++ r)) (rest_of x (At d k) (suc k))) g
-    ∙ bind (At d k (s ++ r)) (one_more (At d k) (suc k)) a r (h d le r free.1)
+    ∙ bind (At d k (s ++ r)) (one_operator_at_most (At d k) (suc k)) a r (h d le r free.1)
     ∙ one_ends (At d k) (suc k) a r free.0
 
 -- ---- an operator before its operand
@@ -285,7 +285,7 @@ once_step o a b s t g starts h f d le r free =
     ap (At d (suc k)) (sides s (spelling o) t r)
     ∙ without_head d k (s ++ (spelling o ++ i)) (headless k once g (λ e. cc))
     ∙ ap (λ x. and_then (At d k (s ++ (spelling o ++ i))) (rest_of x (At d k) (suc k))) g
-    ∙ bind (At d k (s ++ (spelling o ++ i))) (one_more (At d k) (suc k)) a (spelling o ++ i) (h d (omega arith) (spelling o ++ i) (apart o i (starts r)))
+    ∙ bind (At d k (s ++ (spelling o ++ i))) (one_operator_at_most (At d k) (suc k)) a (spelling o ++ i) (h d (omega arith) (spelling o ++ i) (apart o i (starts r)))
     ∙ one_goes (At d k) (suc k) o a b i r (found o i (starts r)) (f d (omega arith) r free.1)
 
 pub joined_step : (o : Infix) (a b : Expr) (s t : Text) → ((r : Text) → Starts (t ++ r)) → Complete (left_level o) a s → Complete (right_level o) b t → Complete (suc (below o)) (binary o a b) (s ++ (spelling o ++ t))
@@ -308,7 +308,7 @@ joined_step between.Neqv a b s t starts h g = left_step between.Neqv a b s t sta
 
 -- ---- expr
 
-pub whole_read : (a : Expr) (s : Text) → Complete whole a s → (d : ℕ) → length s < d → (r : Text) → Free whole r → expr_within d (s ++ r) ≡ Some (a, r)
+pub whole_read : (a : Expr) (s : Text) → Complete top_level a s → (d : ℕ) → length s < d → (r : Text) → Free top_level r → expr_within d (s ++ r) ≡ Some (a, r)
 unfolding expr_within
 whole_read a s h zero le r free = absurd (omega arith)
-whole_read a s h (suc d) le r free = level_read whole a s h d (omega arith) r free
+whole_read a s h (suc d) le r free = level_read top_level a s h d (omega arith) r free

@@ -7,7 +7,7 @@ use Rattle.f77_exprs.specs.declared.operators.Infix.{Infix}
 use Rattle.f77_exprs.specs.declared.operators.Infix.TheVariants as between
 use Rattle.f77_exprs.specs.declared.operators.Prefix.TheVariants as before
 use Rattle.f77_exprs.specs.Operators.{Text, spelling, below, grouping, left_level}
-use Rattle.f77_exprs.specs.Spelling.{whole, Spells, truth, falsehood, parentheses, lower, joined, SpellsArguments, no_list, empty_list, list, SpellsAll, last, more, SpellsPart, no_part, SpellsBound, left_out, given}
+use Rattle.f77_exprs.specs.Spelling.{top_level, Spells, truth, falsehood, parentheses, lower, joined, SpellsArguments, no_list, empty_list, list, SpellsAll, last, more, SpellsPart, no_part, SpellsBound, left_out, given}
 use Rattle.f77_exprs.specs.Spelling as spelled
 use Rattle.f77_ast.specs.declared.refusal.Refusal.{Refusal}
 use Rattle.f77_ast.specs.declared.refusal.FrontError.TheVariants.{Refused}
@@ -113,15 +113,15 @@ mutual
   complete_bound (given h) = given_step _ _ (starts h) (complete h)
 
 -- what is spelled as an expr is read, before any rest that may follow
-pub expr_is_read : (a : Expr) (s : Text) → Spells whole a s → (depth : ℕ) → length s < depth → (r : Text) → Free whole r → expr_within depth (s ++ r) ≡ Some (a, r)
+pub expr_is_read : (a : Expr) (s : Text) → Spells top_level a s → (depth : ℕ) → length s < depth → (r : Text) → Free top_level r → expr_within depth (s ++ r) ≡ Some (a, r)
 expr_is_read a s h = whole_read a s (complete h)
 
-pub spelled_is_read : (text : Text) (a : Expr) → Spells whole a text → expr_of text ≡ Some a
+pub spelled_is_read : (text : Text) (a : Expr) → Spells top_level a text → expr_of text ≡ Some a
 unfolding expr_of
 spelled_is_read text a h =
     ap all_of (ap (expr_within (suc (length text))) (sym (append-nil text)) ∙ whole_read a text (complete h) (suc (length text)) (omega arith) [] ending)
 
-pub one_tree : (text : Text) (one other : Expr) → Spells whole one text → Spells whole other text → one ≡ other
+pub one_tree : (text : Text) (one other : Expr) → Spells top_level one text → Spells top_level other text → one ≡ other
 one_tree text one other h g =
     let p = spelled_is_read text one h in
     let q = spelled_is_read text other g in

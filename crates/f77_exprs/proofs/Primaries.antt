@@ -11,7 +11,7 @@ use Rattle.f77_ast.specs.declared.expr.Expr.{Expr}
 use Rattle.f77_ast.specs.declared.expr.Expr.TheVariants as expr
 use Rattle.f77_ast.specs.declared.expr.Part.{Part}
 use Rattle.f77_exprs.specs.Operators.{Text, begins}
-use Rattle.f77_exprs.specs.Spelling.{doubled, reference_of, part_of, whole}
+use Rattle.f77_exprs.specs.Spelling.{doubled, reference_of, part_of, top_level}
 use Rattle.f77_exprs.specs.Reading.{Parser, and_then, ◌>>=◌, ◌>>◌, pure, refuse, on_some, is_empty, sees, eat, expect, eat_word, digits, number, characters, constant, literal, alphanumerics, name, bound, substring, more_arguments, arguments, with_part, with_low, with_first, opened, reference, primary, expr_within}
 use Rattle.f77_exprs.proofs.Constants.{closed, twice, another}
 use Rattle.f77_exprs.proofs.Numbers.{number_is, number_none}
@@ -160,7 +160,7 @@ constant_step bytes some d le r ends =
     ap (λ x. primary (expr_within d) (39 ∷ x)) (append_assoc (doubled bytes) (39 ∷ []) r)
     ∙ ap (λ o. and_then (and_then o (λ bytes. pure (Some (expr.Chars bytes)))) (λ found. on_some found (λ a. pure a) (reference (expr_within d)))) (constant_read bytes r some ends.2)
 
-pub parentheses_step : (a : Expr) (s : Text) → Complete whole a s → Complete 0 (expr.Paren a) (40 ∷ (s ++ 41 ∷ []))
+pub parentheses_step : (a : Expr) (s : Text) → Complete top_level a s → Complete 0 (expr.Paren a) (40 ∷ (s ++ 41 ∷ []))
 unfolding primary
 parentheses_step a s h d le r ends =
     let l = length-append s (41 ∷ []) in
@@ -192,7 +192,7 @@ pub left_out_step : CompleteBound None []
 unfolding bound opened
 left_out_step d le m = (refl, refl, λ n. refl)
 
-pub given_step : (a : Expr) (s : Text) → ((r : Text) → Starts (s ++ r)) → Complete whole a s → CompleteBound (Some a) s
+pub given_step : (a : Expr) (s : Text) → ((r : Text) → Starts (s ++ r)) → Complete top_level a s → CompleteBound (Some a) s
 unfolding bound opened with_first
 given_step a s starts h d le m = (
   eats_no 58 (s ++ 58 ∷ m) (λ none. if none then pure None else (expr_within d >>= (λ a. expect 58 >> pure (Some a)))) (starts (58 ∷ m)).3
@@ -232,10 +232,10 @@ part_step low high s t h g d le r ends =
     )
 
 -- list(expr)
-pub last_step : (a : Expr) (s : Text) → Complete whole a s → CompleteAll (a ∷ []) s
+pub last_step : (a : Expr) (s : Text) → Complete top_level a s → CompleteAll (a ∷ []) s
 last_step a s h d le m = let l = length-append s (41 ∷ m) in (a, 41 ∷ m, whole_read a s h d le (41 ∷ m) (closing m), refl, omega arith, λ n found few. no_more (expr_within d) n (found ++ a ∷ []) (41 ∷ m) refl)
 
-pub more_step : (a : Expr) (all : List Expr) (s t : Text) → Complete whole a s → CompleteAll all t → CompleteAll (a ∷ all) (s ++ 44 ∷ t)
+pub more_step : (a : Expr) (all : List Expr) (s t : Text) → Complete top_level a s → CompleteAll all t → CompleteAll (a ∷ all) (s ++ 44 ∷ t)
 more_step a all s t h g d le m =
     let l = length-append s (44 ∷ t) in
     let i = t ++ 41 ∷ m in

@@ -12,9 +12,9 @@ use Rattle.f77_exprs.specs.declared.operators.Infix.{Infix}
 use Rattle.f77_exprs.specs.declared.operators.Prefix.{Prefix}
 use Rattle.f77_exprs.specs.declared.operators.Prefix.TheVariants as before
 use Rattle.f77_exprs.specs.Operators.{Text, spelling, below, prefix_operator, prefix_spelling, under, infixes, prefixes, Grouping, to_left, to_right, once, grouping, left_of, right_of, begins, is_here, is_before, first_passing}
-use Rattle.f77_exprs.specs.Spelling.{doubled, reference_of, part_of, whole, Spells, truth, falsehood, parentheses, lower, joined, SpellsArguments, no_list, empty_list, list, SpellsAll, last, more, SpellsPart, no_part, SpellsBound, left_out, given}
+use Rattle.f77_exprs.specs.Spelling.{doubled, reference_of, part_of, top_level, Spells, truth, falsehood, parentheses, lower, joined, SpellsArguments, no_list, empty_list, list, SpellsAll, last, more, SpellsPart, no_part, SpellsBound, left_out, given}
 use Rattle.f77_exprs.specs.Spelling as spelled
-use Rattle.f77_exprs.specs.Reading.{Outcome, Parser, and_then, ◌>>=◌, ◌>>◌, pure, refuse, on_some, is_empty, sees, after, eat, expect, after_word, eat_word, skip, next_infix, next_prefix, prefixed, binary, digits, is_number, number_by, number, characters, constant, literal, alphanumerics, name_by, name, more_operands, power, one_more, rest_of, bound, substring, more_arguments, arguments, with_part, with_low, with_first, opened, primary, level, expr_within, all_of, expr_of}
+use Rattle.f77_exprs.specs.Reading.{Outcome, Parser, and_then, ◌>>=◌, ◌>>◌, pure, refuse, on_some, is_empty, sees, after, eat, expect, after_word, eat_word, skip, next_infix, next_prefix, prefixed, binary, digits, is_number, number_by, number, characters, constant, literal, alphanumerics, name_by, name, more_operands, power, one_operator_at_most, rest_of, bound, substring, more_arguments, arguments, with_part, with_low, with_first, opened, primary, level, expr_within, all_of, expr_of}
 use Rattle.f77_exprs.specs.Reading as reading
 use Rattle.f77_exprs.proofs.Numbers.{digits_all}
 use Rattle.f77_exprs.proofs.Words.{begins_splits, infix_splits, prefix_splits}
@@ -255,8 +255,8 @@ module _ (operand : Parser Expr) (k : ℕ) (sound : Sound operand k) where
       (s, refl, lower h)
 
   -- at a level of one operator
-  one_sound : grouping (suc k) ≡ once → (a : Expr) (s i : Text) → Spells k a s → Holds (Longer (suc k) s i) (one_more operand (suc k) a i)
-  unfolding one_more
+  one_sound : grouping (suc k) ≡ once → (a : Expr) (s i : Text) → Spells k a s → Holds (Longer (suc k) s i) (one_operator_at_most operand (suc k) a i)
+  unfolding one_operator_at_most
   one_sound g a s i h = takes (suc k) i (λ next. on_some next (λ o. operand >>= (λ right. pure (binary o a right))) (pure a)) (Longer (suc k) s i)
       (λ o j e c. holds_bind (operand j) _ (Begins k j) (Longer (suc k) s i) (sound j)
       (λ y r p. (s ++ (spelling o ++ p.0), sides s (spelling o) p.0 r i j c p.1, around k i o a y s p.0 e (subst (λ t. Spells (left_of t k) a s) (sym g) h) (subst (λ t. Spells (right_of t k) y p.0) (sym g) p.2))))
@@ -279,7 +279,7 @@ abbrev Grows : Text → Text → List Expr → List Expr → Text → Type 0
 Grows s i found all r = (t : Text) × (s ++ i ≡ t ++ r) × SpellsAll all t
 
 -- an argument more
-adds : (found : List Expr) (a : Expr) (s t : Text) → SpellsAll found s → Spells whole a t → SpellsAll (found ++ a ∷ []) (s ++ 44 ∷ t)
+adds : (found : List Expr) (a : Expr) (s t : Text) → SpellsAll found s → Spells top_level a t → SpellsAll (found ++ a ∷ []) (s ++ 44 ∷ t)
 adds _ a _ t (last h) g = more h (last g)
 adds _ a _ t (more {a = b} {all = all} {s = s} {t = u} h k) g = subst (SpellsAll (b ∷ (all ++ a ∷ []))) (sym (append_assoc s (44 ∷ u) (44 ∷ t))) (more h (adds all a u t k g))
 
@@ -287,12 +287,12 @@ adds _ a _ t (more {a = b} {all = all} {s = s} {t = u} h k) g = subst (SpellsAll
 parted : (i j k l q s t : Text) → i ≡ 40 ∷ j → j ≡ s ++ 58 ∷ k → k ≡ t ++ 41 ∷ l → i ≡ (40 ∷ (s ++ 58 ∷ (t ++ 41 ∷ []))) ++ l
 parted i j k l q s t c b d = c ∙ ap (λ x. 40 ∷ x) (b ∙ ap (λ x. s ++ 58 ∷ x) (d ∙ sym (append_assoc t (41 ∷ []) l)) ∙ sym (append_assoc s (58 ∷ (t ++ 41 ∷ [])) l))
 
-module _ (inner : Parser Expr) (sound : Sound inner whole) where
+module _ (inner : Parser Expr) (sound : Sound inner top_level) where
   bound_sound : (b : ℕ) (i : Text) → Holds (BeginsBound b i) (bound inner b i)
   unfolding bound
   bound_sound b i = eats b i (λ none. if none then pure None else (inner >>= (λ a. expect b >> pure (Some a)))) (BeginsBound b i)
       (λ j c. ([], c, left_out))
-      (holds_bind (inner i) _ (Begins whole i) (BeginsBound b i) (sound i) (λ a j p. holds_bind (expect b j) _ (λ u r. j ≡ b ∷ r) (BeginsBound b i) (expects b j) (λ u r d. (p.0, p.1 ∙ ap (λ x. p.0 ++ x) d, given p.2))))
+      (holds_bind (inner i) _ (Begins top_level i) (BeginsBound b i) (sound i) (λ a j p. holds_bind (expect b j) _ (λ u r. j ≡ b ∷ r) (BeginsBound b i) (expects b j) (λ u r d. (p.0, p.1 ∙ ap (λ x. p.0 ++ x) d, given p.2))))
 
   substring_sound : (i : Text) → Holds (BeginsPart i) (substring inner i)
   unfolding substring
@@ -305,11 +305,11 @@ module _ (inner : Parser Expr) (sound : Sound inner whole) where
   unfolding more_arguments
   more_arguments_sound zero found s i h = (s, refl, h)
   more_arguments_sound (suc n) found s i h = eats 44 i (λ comma. if comma then (inner >>= (λ a. more_arguments inner n (found ++ a ∷ []))) else pure found) (Grows s i found)
-      (λ k c. holds_bind (inner k) _ (Begins whole k) (Grows s i found) (sound k) (λ a j p. holds_weak (more_arguments inner n (found ++ a ∷ []) j) (Grows (s ++ 44 ∷ p.0) j (found ++ a ∷ [])) (Grows s i found)
+      (λ k c. holds_bind (inner k) _ (Begins top_level k) (Grows s i found) (sound k) (λ a j p. holds_weak (more_arguments inner n (found ++ a ∷ []) j) (Grows (s ++ 44 ∷ p.0) j (found ++ a ∷ [])) (Grows s i found)
       (more_arguments_sound n (found ++ a ∷ []) (s ++ 44 ∷ p.0) j (adds found a s p.0 h p.2)) (λ all r w. (w.0, joins s p.0 j i k 44 c p.1 ∙ w.1, w.2))))
       (s, refl, h)
 
-  arguments_sound : (first : Expr) (s i : Text) → Spells whole first s → Holds (Grows s i (first ∷ [])) (arguments inner first i)
+  arguments_sound : (first : Expr) (s i : Text) → Spells top_level first s → Holds (Grows s i (first ∷ [])) (arguments inner first i)
   unfolding arguments
   arguments_sound first s i h = more_arguments_sound (length i) (first ∷ []) s i (last h)
 
@@ -332,7 +332,7 @@ module _ (inner : Parser Expr) (sound : Sound inner whole) where
   shifts : (n s t i j : Text) (o : Outcome Expr) → s ++ i ≡ t ++ j → Holds (Refers n t j) o → Holds (Refers n s i) o
   shifts n s t i j o e h = holds_weak o (Refers n t j) (Refers n s i) h (λ a r w. (w.0, e ∙ w.1, w.2))
 
-  with_first_sound : (n : Text) (first : Expr) (s i : Text) → IsName n → Spells whole first s → Holds (Refers n (40 ∷ s) i) (with_first inner n first i)
+  with_first_sound : (n : Text) (first : Expr) (s i : Text) → IsName n → Spells top_level first s → Holds (Refers n (40 ∷ s) i) (with_first inner n first i)
   unfolding with_first
   with_first_sound n first s i is h = eats 58 i (λ colon. if colon then with_low inner n (Some first) else (arguments inner first >>= (λ all. expect 41 >> with_part inner n all))) (Refers n (40 ∷ s) i)
       (λ j c. shifts n (40 ∷ s) (40 ∷ (s ++ 58 ∷ [])) i j (with_low inner n (Some first) j) (ap (λ x. 40 ∷ (s ++ x)) c ∙ ap (λ x. 40 ∷ x) (sym (append_assoc s (58 ∷ []) j))) (with_low_sound n (Some first) s j is (given h)))
@@ -345,7 +345,7 @@ module _ (inner : Parser Expr) (sound : Sound inner whole) where
       (λ j c. shifts n (40 ∷ []) (40 ∷ 41 ∷ []) i j (with_part inner n [] j) (ap (λ x. 40 ∷ x) c) (with_part_sound n [] (40 ∷ 41 ∷ []) j is empty_list))
       (eats 58 i (λ colon. if colon then with_low inner n None else (inner >>= (λ first. with_first inner n first))) (Refers n (40 ∷ []) i)
       (λ j c. shifts n (40 ∷ []) (40 ∷ 58 ∷ []) i j (with_low inner n None j) (ap (λ x. 40 ∷ x) c) (with_low_sound n None [] j is left_out))
-      (holds_bind (inner i) _ (Begins whole i) (Refers n (40 ∷ []) i) (sound i) (λ first j p.
+      (holds_bind (inner i) _ (Begins top_level i) (Refers n (40 ∷ []) i) (sound i) (λ first j p.
       shifts n (40 ∷ []) (40 ∷ p.0) i j (with_first inner n first j) (ap (λ x. 40 ∷ x) p.1) (with_first_sound n first p.0 j is p.2))))
 
   pub reference_sound : Sound (reading.reference inner) 0
@@ -357,7 +357,7 @@ module _ (inner : Parser Expr) (sound : Sound inner whole) where
   pub primary_sound : Sound (primary inner) 0
   unfolding primary
   primary_sound i = eats 40 i (λ opens. if opens then (inner >>= (λ a. expect 41 >> pure (expr.Paren a))) else (literal >>= (λ found. on_some found (λ a. pure a) (reading.reference inner)))) (Begins 0 i)
-      (λ k c. holds_bind (inner k) _ (Begins whole k) (Begins 0 i) (sound k) (λ a l b. holds_bind (expect 41 l) _ (λ u m. l ≡ 41 ∷ m) (Begins 0 i) (expects 41 l) (λ u m d.
+      (λ k c. holds_bind (inner k) _ (Begins top_level k) (Begins 0 i) (sound k) (λ a l b. holds_bind (expect 41 l) _ (λ u m. l ≡ 41 ∷ m) (Begins 0 i) (expects 41 l) (λ u m d.
       (40 ∷ (b.0 ++ 41 ∷ []), closes i k l m b.0 c b.1 d, parentheses b.2))))
       (holds_bind (literal i) _ (Offers 0 i) (Begins 0 i) (literal_sound i) by)
     where
@@ -397,12 +397,12 @@ module _ (inner : Parser Expr) (sound : Sound inner whole) where
       (λ x r w. (w.0, p.1 ∙ w.1, w.2))))
 
 -- what is read as an expr before a rest is spelled so
-pub within_sound : (depth : ℕ) → Sound (expr_within depth) whole
+pub within_sound : (depth : ℕ) → Sound (expr_within depth) top_level
 unfolding expr_within
 within_sound zero i = tt
 within_sound (suc depth) i = level_sound (expr_within depth) (within_sound depth) 9 i
 
-all_sound : (text : Text) (o : Outcome Expr) (a : Expr) → Holds (Begins whole text) o → all_of o ≡ Some a → Spells whole a text
+all_sound : (text : Text) (o : Outcome Expr) (a : Expr) → Holds (Begins top_level text) o → all_of o ≡ Some a → Spells top_level a text
 all_sound text None a h e = cc
 all_sound text (Some (b, [])) a h e =
     let k : b ≡ a = cc in
@@ -410,6 +410,6 @@ all_sound text (Some (b, [])) a h e =
     rw (t, ← k) h.2
 all_sound text (Some (b, c ∷ r)) a h e = cc
 
-pub read_is_spelled : (text : Text) (a : Expr) → expr_of text ≡ Some a → Spells whole a text
+pub read_is_spelled : (text : Text) (a : Expr) → expr_of text ≡ Some a → Spells top_level a text
 unfolding expr_of
 read_is_spelled text a e = all_sound text (expr_within (suc (length text)) text) a (within_sound (suc (length text)) text) e

@@ -145,7 +145,8 @@ begins [] i = true
 begins (b ∷ s) [] = false
 begins (b ∷ s) (c ∷ i) = (c == b) && begins s i
 
--- whether an operator comes next, and no longer one
+-- whether an operator comes next: `/` only where `//` doesn't; `**` needs no such care, since level 1 has taken it before
+-- level 2 looks for `*`
 abbrev pub is_here : Infix → Text → Bool
 is_here between.Div i = begins (codes "/") i && not (begins (codes "//") i)
 is_here o i = begins (spelling o) i

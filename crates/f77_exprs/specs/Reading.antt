@@ -168,14 +168,14 @@ power operand k zero left = pure left
 power operand k (suc turns) left = next_infix k >>= (λ next. on_some next (λ o. operand >>= power operand k turns >>= (λ right. pure (binary o left right))) (pure left))
 
 -- one operator at most, with its right operand
-unfoldable pub one_more : Parser Expr → ℕ → Expr → Parser Expr
-one_more operand k left = next_infix k >>= (λ next. on_some next (λ o. operand >>= (λ right. pure (binary o left right))) (pure left))
+unfoldable pub one_operator_at_most : Parser Expr → ℕ → Expr → Parser Expr
+one_operator_at_most operand k left = next_infix k >>= (λ next. on_some next (λ o. operand >>= (λ right. pure (binary o left right))) (pure left))
 
 -- what stands at a level behind its first operand
 abbrev pub rest_of : Grouping → Parser Expr → ℕ → Expr → Parser Expr
 rest_of to_left operand k left = λ i. more_operands operand k (length i) left i
 rest_of to_right operand k left = λ i. power operand k (length i) left i
-rest_of once operand k left = one_more operand k left
+rest_of once operand k left = one_operator_at_most operand k left
 
 -- ---- the grammar, where `inner` reads what stands in parentheses
 
@@ -243,8 +243,8 @@ rest_within depth below first = rest_of (grouping (below + 1)) (level_within dep
 abbrev pub power_within : ℕ → ℕ → Expr → Parser Expr
 power_within depth turns left = power (level_within depth 0) 1 turns left
 
--- the tree of an outcome after which no text is left
-abbrev pub all_of : Outcome Expr → Option Expr
+-- what an outcome has read, where no text is left behind it
+abbrev pub all_of : {A : Type 0} → Outcome A → Option A
 all_of (Some (a, [])) = Some a
 all_of _ = None
 

@@ -28,8 +28,8 @@ abbrev pub part_of : Option Expr → Option Expr → Part
 part_of low high = roll-Part (record { low = low; high = high })
 
 -- the level of expr
-abbrev pub whole : ℕ
-whole = 9
+abbrev pub top_level : ℕ
+top_level = 9
 
 mutual
   -- the trees that a text spells at a level
@@ -46,7 +46,7 @@ mutual
     -- (sections 2.2, 5.3, 5.7.1 and 15.2)
     reference : (name : Text) {arguments : Option (List Expr)} {part : Option Part} {s t : Text} → IsName name → SpellsArguments arguments s → SpellsPart part t → Spells 0 (reference_of name arguments part) (name ++ (s ++ t))
     -- primary: `(` expr `)` (section 6.1.2.1)
-    parentheses : {a : Expr} {s : Text} → Spells whole a s → Spells 0 (expr.Paren a) (40 ∷ (s ++ 41 ∷ []))
+    parentheses : {a : Expr} {s : Text} → Spells top_level a s → Spells 0 (expr.Paren a) (40 ∷ (s ++ 41 ∷ []))
     -- factor: primary; term: factor; sum: term; chars: sum; relation: chars; negation: relation; conjunction: negation;
     -- disjunction: conjunction; expr: disjunction (sections 6.1.2, 6.2.2, 6.3.2, 6.3.4 and 6.4.2)
     lower : {k : ℕ} {a : Expr} {s : Text} → Spells k a s → Spells (suc k) a s
@@ -71,9 +71,9 @@ mutual
   -- list(expr): one or more expr with commas between
   pub data SpellsAll : List Expr → Text → Type 0 where
     -- list(expr): expr
-    last : {a : Expr} {s : Text} → Spells whole a s → SpellsAll (a ∷ []) s
+    last : {a : Expr} {s : Text} → Spells top_level a s → SpellsAll (a ∷ []) s
     -- list(expr): expr `,` list(expr)
-    more : {a : Expr} {all : List Expr} {s t : Text} → Spells whole a s → SpellsAll all t → SpellsAll (a ∷ all) (s ++ 44 ∷ t)
+    more : {a : Expr} {all : List Expr} {s t : Text} → Spells top_level a s → SpellsAll all t → SpellsAll (a ∷ all) (s ++ 44 ∷ t)
 
   -- the bounds of a substring: nothing, or `(` [expr] `:` [expr] `)` (section 5.7.1)
   pub data SpellsPart : Option Part → Text → Type 0 where
@@ -87,8 +87,8 @@ mutual
     -- [expr]: nothing
     left_out : SpellsBound None []
     -- [expr]: expr
-    given : {a : Expr} {s : Text} → Spells whole a s → SpellsBound (Some a) s
+    given : {a : Expr} {s : Text} → Spells top_level a s → SpellsBound (Some a) s
 
 -- expr: the trees that a whole text spells
 abbrev pub SpellsExpr : Text → Expr → Type 0
-SpellsExpr text a = Spells whole a text
+SpellsExpr text a = Spells top_level a text

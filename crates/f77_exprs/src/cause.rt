@@ -7,7 +7,7 @@ use crate::reader::{alphanumerics, digits, is_alphanumeric, number_of};
 use hyb_base::no_memory::NoMemory;
 use std::alloc::Global;
 
-/// Why a text spells no expression. Character constants and dotted words are looked over.
+/// Why a text spells no expression. What stands in character constants and dotted words doesn't count.
 #[derive(Clone, Copy, Debug, PartialEq, Eq)]
 pub enum Cause {
     /// None of the others.
@@ -100,7 +100,7 @@ fn is_run_with_exponent(before: u8, text: &[u8]) -> bool
     count > 0 && is_exponent(text.split_at(count).1)
 }
 
-/// Whether digits are worth more than 2^63 - 1.
+/// Whether a number run of a value above 2^63 - 1 comes next, behind a byte.
 fn is_out_of_range(before: u8, text: &[u8]) -> bool
     ensures { result ≡ spec.makes Cause.LiteralRange before text.now }
 {
@@ -115,8 +115,8 @@ pub fn is_long_name(before: u8, text: &[u8]) -> bool
     !is_alphanumeric(before) && sees_letter(text) && alphanumerics(text) > 6
 }
 
-/// Whether a cause is made at a place, by the byte before it and by the text from there on. Nothing makes the one that
-/// is left.
+/// Whether a cause is made at a place, by the byte before it and by the text from there on. `NoExpression`
+/// is made nowhere: it is left where no other is made.
 fn makes(cause: Cause, before: u8, text: &[u8]) -> bool
     ensures { result ≡ spec.makes cause before text.now }
 {

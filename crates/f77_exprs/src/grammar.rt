@@ -234,7 +234,7 @@ fn relation(
     depth: usize,
     left: Expr,
 ) -> Result<Expr, Unread>
-    ensures value { Reads (spec.one_more (spec.level_within depth 4) 5 left reader.old) result reader.new }
+    ensures value { Reads (spec.one_operator_at_most (spec.level_within depth 4) 5 left reader.old) result reader.new }
     ensures within { length reader.new ≤ length reader.old }
 {
     match reader.take_infix(5) {

@@ -138,7 +138,7 @@ pub fn begins(spelling: &[u8], text: &[u8]) -> bool
     text.starts_with(spelling)
 }
 
-/// Whether an operator comes next, and no longer one.
+/// Whether an operator comes next: `/` only where `//` doesn't. `**` is taken at level 1, before `*` is looked for.
 fn is_here(operator: Infix, text: &[u8]) -> bool
     ensures { result ≡ spec.is_here operator text.now }
 {

@@ -1,5 +1,5 @@
 //! What is left of a text while an expression is read from it, and the smallest parts that are taken from it.
-ghost use Rattle.std.specs.Prelude.{◌≡◌, ◌≤◌, ◌<◌, ◌^◌, [], ◌∷◌, true, length, take, drop, pos, MatchOption, OnSome, SomeIff, Some};
+ghost use Rattle.std.specs.Prelude.{◌≡◌, ◌≤◌, ◌<◌, ◌^◌, [], ◌∷◌, true, length, take, drop, pos, MatchOption, OnSome, SomeIff, Some, IsOkUnless};
 ghost use Rattle.std.specs.List.{list_all};
 ghost use Rattle.std.specs.Char.{is_ascii_digit};
 ghost use Rattle.hyb_base.specs.Decimal.{IsDigits, value_of};
@@ -120,6 +120,7 @@ impl<'a> Reader<'a> {
     pub fn expect(&mut self, byte: u8) -> Result<(), Unread>
         ensures value { Reads (spec.expect byte self.old) result self.new }
         ensures within { length self.new ≤ length self.old }
+        ensures err { IsOkUnless result Unread.Unspelled }
     {
         if self.eat(byte) {
             Ok(())
@@ -182,6 +183,7 @@ impl<'a> Reader<'a> {
     pub fn number(&mut self) -> Result<Option<Expr>, Unread>
         ensures value { Reads (spec.number self.old) result self.new }
         ensures within { length self.new ≤ length self.old }
+        ensures err { IsOkUnless result Unread.Unspelled }
     {
         let count = digits(self.rest);
         if count == 0 {
@@ -209,10 +211,11 @@ impl<'a> Reader<'a> {
     }
 
     /// Takes a name: one to six letters and digits, the first of which is a letter (ANSI X3.9-1978, section 2.2).
-    /// `Unspelled` exactly where the letters and digits that come next are none.
+    /// `Unspelled` exactly where all letters and digits that come next aren't such a name.
     pub fn name(&mut self) -> Result<Name, Unread>
         ensures value { Reads (spec.name self.old) result self.new }
         ensures within { length self.new ≤ length self.old }
+        ensures err { IsOkUnless result Unread.Unspelled }
     {
         let (text, rest) = self.rest.split_at(alphanumerics(self.rest));
         match Name::new(text) {

@@ -17,7 +17,7 @@ use Rattle.f77_ast.specs.declared.expr.Expr.TheVariants as expr
 use Rattle.f77_ast.specs.declared.expr.Ref.{Ref}
 use Rattle.f77_exprs.specs.declared.operators.Prefix.TheVariants as prefix
 use Rattle.f77_exprs.specs.Operators.{Text, spelling}
-use Rattle.f77_exprs.specs.Spelling.{doubled, whole, Spells, truth, falsehood, parentheses, lower, joined}
+use Rattle.f77_exprs.specs.Spelling.{doubled, top_level, Spells, truth, falsehood, parentheses, lower, joined}
 use Rattle.f77_exprs.specs.Spelling as spelled
 use Rattle.f77_exprs.specs.Reading.{Outcome, and_then, pure, on_some, sees, digits, alphanumerics, number, literal, name, reference, primary, expr_within}
 use Rattle.f77_exprs.proofs.Complete.{bind, Free, Ends, closing, comma, colon, ending}
@@ -204,19 +204,19 @@ after_ref (c ∷ r) h =
     let w = and_parts (not (c == 39)) (not (c == 40)) q.1 in
     (after_digits (c ∷ r) q.0, after_name (c ∷ r) p.0, negated (c == 39) w.0, negated (c == 40) w.1)
 
-pub after_expr : (r : Text) → Next behind_expr r → Free whole r
+pub after_expr : (r : Text) → Next behind_expr r → Free top_level r
 after_expr [] h = ending
 after_expr (c ∷ r) h = by (c == 41) (c == 44) (c == 58) refl refl refl h
   where
-    by : (t u w : Bool) → (c == 41) ≡ t → (c == 44) ≡ u → (c == 58) ≡ w → (t || (u || w)) ≡ true → Free whole (c ∷ r)
-    by true u w a b d e = subst (λ x. Free whole (x ∷ r)) (sym (eqb-true c 41 a)) (closing r)
-    by false true w a b d e = subst (λ x. Free whole (x ∷ r)) (sym (eqb-true c 44 b)) (comma r)
-    by false false true a b d e = subst (λ x. Free whole (x ∷ r)) (sym (eqb-true c 58 d)) (colon r)
+    by : (t u w : Bool) → (c == 41) ≡ t → (c == 44) ≡ u → (c == 58) ≡ w → (t || (u || w)) ≡ true → Free top_level (c ∷ r)
+    by true u w a b d e = subst (λ x. Free top_level (x ∷ r)) (sym (eqb-true c 41 a)) (closing r)
+    by false true w a b d e = subst (λ x. Free top_level (x ∷ r)) (sym (eqb-true c 44 b)) (comma r)
+    by false false true a b d e = subst (λ x. Free top_level (x ∷ r)) (sym (eqb-true c 58 d)) (colon r)
     by false false false a b d e = cc
 
 -- ---- what is spelled is read
 
-pub read_expr : (d : ℕ) (v : Expr) (s r : Text) → length s < d → Spells whole v s → Next behind_expr r → expr_within d (s ++ r) ≡ Some (v, r)
+pub read_expr : (d : ℕ) (v : Expr) (s r : Text) → length s < d → Spells top_level v s → Next behind_expr r → expr_within d (s ++ r) ≡ Some (v, r)
 read_expr d v s r lt h n = expr_is_read v s h d lt r (after_expr r n)
 
 -- what begins with a name is no constant and no parenthesis

@@ -1,4 +1,4 @@
 pub mod Forms
 pub mod LeafLemmas
-pub mod SeekLemmas
+pub mod DepthLemmas
 pub mod Turns

@@ -29,7 +29,7 @@ pub data Form : Type 0 → Type 1 where
   made : {A B : Type 0} → (A → B) → Form A → Form B
   -- a word and then one form, or another form
   either : {A : Type 0} → Text → Form A → Form A → Form A
-  -- one form where the first byte passes a test, else another
+  -- one form or another. Only reading looks at the test: the first form where a first byte passes it, else the second
   by_first : {A : Type 0} → (ℕ → Bool) → Form A → Form A → Form A
   -- list(form): one or more, with commas between
   list : {A : Type 0} → Form A → Form (List A)
@@ -139,7 +139,7 @@ ref_of a = ref_at (out-Expr a)
 abbrev pub whole_of : Ref → Parser Ref
 whole_of r = if is_none ((out-Ref r).part) then pure r else refuse
 
--- a number of five digits at most
+-- a number below 100,000
 abbrev pub small : ℤ → Option ℕ
 small (pos n) = if nat_lt n 100000 then Some n else None
 small (negsuc n) = None

@@ -1,5 +1,5 @@
 //! The smallest parts of statements: references, names, labels, digits, constants and letters.
-ghost use Rattle.std.specs.Prelude.{◌≡◌, ◌≤◌, ◌≤ℤ◌, pos, length, IfOk, SomeIff};
+ghost use Rattle.std.specs.Prelude.{◌≡◌, ◌≤◌, ◌≤ℤ◌, pos, length, IfOk, SomeIff, IsOkUnless};
 ghost use Rattle.hyb_base.specs.Decimal.{IsDigits, value_of};
 ghost use Rattle.f77_ast.specs.Name.{is_letter};
 ghost use Rattle.f77_exprs.specs.Read.{Reads};
@@ -19,6 +19,7 @@ use std::alloc::Global;
 pub fn expect_word(reader: &mut Reader<'_>, word: &[u8]) -> Result<(), Unread>
     ensures value { Reads (form.expect_word word.now reader.old) result reader.new }
     ensures within { length reader.new ≤ length reader.old }
+    ensures err { IsOkUnless result Unread.Unspelled }
 {
     if reader.eat_word(word) {
         Ok(())
@@ -78,6 +79,7 @@ fn short_value(digits: &[u8]) -> Option<u32>
 pub fn a_label(reader: &mut Reader<'_>) -> Result<Label, Unread>
     ensures value { Reads (form.label reader.old) result reader.new }
     ensures within { length reader.new ≤ length reader.old }
+    ensures err { IsOkUnless result Unread.Unspelled }
 {
     match short_value(reader.take_digits()) {
         Some(value) if value > 0 => Ok(value),
@@ -89,6 +91,7 @@ pub fn a_label(reader: &mut Reader<'_>) -> Result<Label, Unread>
 pub fn some_digits(reader: &mut Reader<'_>) -> Result<u32, Unread>
     ensures value { Reads (form.short reader.old) result reader.new }
     ensures within { length reader.new ≤ length reader.old }
+    ensures err { IsOkUnless result Unread.Unspelled }
 {
     match short_value(reader.take_digits()) {
         Some(value) => Ok(value),
@@ -101,6 +104,7 @@ pub fn a_number(reader: &mut Reader<'_>) -> Result<i64, Unread>
     ensures value { Reads (form.int reader.old) result reader.new }
     ensures natural { IfOk result (λ v. pos 0 ≤ℤ v) }
     ensures within { length reader.new ≤ length reader.old }
+    ensures err { IsOkUnless result Unread.Unspelled }
 {
     match number_of(reader.take_digits()) {
         Some(value) => Ok(value),
@@ -130,6 +134,7 @@ fn is_letter(byte: u8) -> bool
 pub fn a_letter(reader: &mut Reader<'_>) -> Result<u8, Unread>
     ensures value { Reads (form.letter reader.old) result reader.new }
     ensures within { length reader.new ≤ length reader.old }
+    ensures err { IsOkUnless result Unread.Unspelled }
 {
     match reader.next_byte() {
         Some(byte) if is_letter(byte) => Ok(byte),

@@ -5,6 +5,6 @@
 //! readers of its smallest parts and of lists, and the laws that join what is spelled with what is read.
 #![tactic(auto)]
 
+pub mod depth;
 pub mod leaves;
 pub mod list;
-pub mod seek;

@@ -10,7 +10,7 @@ use sqlite_items::Items;
 use std::alloc::Global;
 
 /// A part of a statement of which lists are made: a production of the grammar.
-pub trait Part {
+pub trait Production {
     ghost use Rattle.std.specs.Prelude.{ℕ};
     ghost use Rattle.f77_exprs.specs.Reading.{Parser};
 
@@ -26,7 +26,7 @@ pub trait Part {
 }
 
 /// list(part): one or more, with commas between
-pub fn list<P: Part>(
+pub fn list<P: Production>(
     alloc: Global,
     reader: &mut Reader<'_>,
     depth: usize,
@@ -45,7 +45,7 @@ pub fn list<P: Part>(
 }
 
 /// none or more parts, up to the end of the text
-pub fn many<P: Part>(
+pub fn many<P: Production>(
     alloc: Global,
     reader: &mut Reader<'_>,
     depth: usize,

@@ -20,27 +20,27 @@ use Rattle.f77_exprs.proofs.Primaries.{other, letter_first, digit_first, alphanu
 use Rattle.f77_exprs.proofs.Sound.{Holds, holds_bind, holds_weak}
 use Rattle.f77_exprs.proofs.Words.{drop_all}
 use Rattle.f77_forms.specs.Form.{Spells, expect_word, read}
-use Rattle.f77_parts.specs.Parts.{control, step}
+use Rattle.f77_parts.specs.Parts.{control, increment}
 use Rattle.f77_parts.specs.Items.{plain, SpellsItem, plain_item, implied_do, SpellsItems, last_item, more_items, is_control, is_implied, goes_on, items_behind, items_of, implied, item_of, items_within}
-use Rattle.f77_forms.specs.Seek.{seek}
+use Rattle.f77_forms.specs.Depth.{has_at_depth}
 use Rattle.f77_forms.proofs.LeafLemmas.{Next}
 use Rattle.f77_forms.proofs.Forms.{is_clear, next, nullable, filled, complete, sound, Front, word_sound}
-use Rattle.f77_forms.proofs.SeekLemmas.{sought, closed, comma_inside, passes, passes_name, dull_skip, dull_names, elsewhere}
+use Rattle.f77_forms.proofs.DepthLemmas.{sought, closed, comma_inside, passes, passes_name, dull_skip, dull_names, elsewhere}
 use Rattle.f77_parts.proofs.ItemTurns.{item_implied, item_plain, no_more, one_more}
 
 -- ---- the text of a control
 
 -- [`,` expr]
-abbrev StepText : Text → Type 0
-StepText w = ((t : Text) × (e : Expr) × (w ≡ 44 ∷ t) × spelled.Spells 9 e t) ⊎ (w ≡ [])
+abbrev IncrementText : Text → Type 0
+IncrementText w = ((t : Text) × (e : Expr) × (w ≡ 44 ∷ t) × spelled.Spells 9 e t) ⊎ (w ≡ [])
 
 -- name `=` expr `,` expr [`,` expr]
 abbrev ControlText : Text → Type 0
-ControlText s = (x : Text) × (y : Text) × (z : Text) × (w : Text) × (a : Expr) × (b : Expr) × (s ≡ x ++ 61 ∷ (y ++ 44 ∷ (z ++ w))) × IsName x × spelled.Spells 9 a y × spelled.Spells 9 b z × StepText w
+ControlText s = (x : Text) × (y : Text) × (z : Text) × (w : Text) × (a : Expr) × (b : Expr) × (s ≡ x ++ 61 ∷ (y ++ 44 ∷ (z ++ w))) × IsName x × spelled.Spells 9 a y × spelled.Spells 9 b z × IncrementText w
 
-step_text : (o : Option Expr) (w : Text) → Spells step o w → StepText w
-step_text o w (inl g) = inl (g.0, g.2.0, g.1, g.2.2)
-step_text o w (inr g) = inr g.1
+increment_text : (o : Option Expr) (w : Text) → Spells increment o w → IncrementText w
+increment_text o w (inl g) = inl (g.0, g.2.0, g.1, g.2.2)
+increment_text o w (inr g) = inr g.1
 
 pub control_text : (c : LoopControl) (s : Text) → Spells control c s → ControlText s
 control_text c s h =
@@ -62,31 +62,31 @@ control_text c s h =
       p.3.2.1,
       q.3.2,
       v.3,
-      step_text h.0.1.1.1 v.1 v.4,
+      increment_text h.0.1.1.1 v.1 v.4,
     )
 
 -- ---- the scanner passes over items
 
 module _ (t : Bool) (at : ℕ) where
-  assigns_inside : (n : ℕ) → at ≤ n → (r : Text) → seek (sought t) at false (suc n) (61 ∷ r) ≡ seek (sought t) at false (suc n) r
+  assigns_inside : (n : ℕ) → at ≤ n → (r : Text) → has_at_depth (sought t) at false (suc n) (61 ∷ r) ≡ has_at_depth (sought t) at false (suc n) r
   assigns_inside n le r = by t
     where
-      by : (t : Bool) → seek (sought t) at false (suc n) (61 ∷ r) ≡ seek (sought t) at false (suc n) r
+      by : (t : Bool) → has_at_depth (sought t) at false (suc n) (61 ∷ r) ≡ has_at_depth (sought t) at false (suc n) r
       by true = rw (elsewhere at n le) refl
       by false = refl
 
-  passes_step : (w : Text) → StepText w → (n : ℕ) → at ≤ n → (r : Text) → seek (sought t) at false (suc n) (w ++ r) ≡ seek (sought t) at false (suc n) r
-  passes_step w (inl g) n le r = ap (λ x. seek (sought t) at false (suc n) (x ++ r)) g.2 ∙ comma_inside t at n (g.0 ++ r) le ∙ passes t at g.3 (suc n) (omega arith) r
-  passes_step w (inr g) n le r = ap (λ x. seek (sought t) at false (suc n) (x ++ r)) g
+  passes_step : (w : Text) → IncrementText w → (n : ℕ) → at ≤ n → (r : Text) → has_at_depth (sought t) at false (suc n) (w ++ r) ≡ has_at_depth (sought t) at false (suc n) r
+  passes_step w (inl g) n le r = ap (λ x. has_at_depth (sought t) at false (suc n) (x ++ r)) g.2 ∙ comma_inside t at n (g.0 ++ r) le ∙ passes t at g.3 (suc n) (omega arith) r
+  passes_step w (inr g) n le r = ap (λ x. has_at_depth (sought t) at false (suc n) (x ++ r)) g
 
-  passes_control : (s : Text) → ControlText s → (n : ℕ) → at ≤ n → (r : Text) → seek (sought t) at false (suc n) (s ++ r) ≡ seek (sought t) at false (suc n) r
+  passes_control : (s : Text) → ControlText s → (n : ℕ) → at ≤ n → (r : Text) → has_at_depth (sought t) at false (suc n) (s ++ r) ≡ has_at_depth (sought t) at false (suc n) r
   passes_control s h n le r =
       let x = h.0 in
       let y = h.1 in
       let z = h.2 in
       let w = h.3 in
-      ap (λ k. seek (sought t) at false (suc n) (k ++ r)) h.6
-      ∙ ap (seek (sought t) at false (suc n)) (append_assoc x (61 ∷ (y ++ 44 ∷ (z ++ w))) r ∙ ap (λ k. x ++ 61 ∷ k) (append_assoc y (44 ∷ (z ++ w)) r ∙ ap (λ k. y ++ 44 ∷ k) (append_assoc z w r)))
+      ap (λ k. has_at_depth (sought t) at false (suc n) (k ++ r)) h.6
+      ∙ ap (has_at_depth (sought t) at false (suc n)) (append_assoc x (61 ∷ (y ++ 44 ∷ (z ++ w))) r ∙ ap (λ k. x ++ 61 ∷ k) (append_assoc y (44 ∷ (z ++ w)) r ∙ ap (λ k. y ++ 44 ∷ k) (append_assoc z w r)))
       ∙ passes_name t at x h.7 (suc n) (omega arith) (61 ∷ (y ++ 44 ∷ (z ++ (w ++ r))))
       ∙ assigns_inside n le (y ++ 44 ∷ (z ++ (w ++ r)))
       ∙ passes t at h.8 (suc n) (omega arith) (44 ∷ (z ++ (w ++ r)))
@@ -94,33 +94,33 @@ module _ (t : Bool) (at : ℕ) where
       ∙ passes t at h.9 (suc n) (omega arith) (w ++ r)
       ∙ passes_step w h.10 n le r
 
-  passes_plain : (refs : Bool) (a : Expr) (s : Text) → Spells (plain refs) a s → (n : ℕ) → at ≤ n → (r : Text) → seek (sought t) at false n (s ++ r) ≡ seek (sought t) at false n r
+  passes_plain : (refs : Bool) (a : Expr) (s : Text) → Spells (plain refs) a s → (n : ℕ) → at ≤ n → (r : Text) → has_at_depth (sought t) at false n (s ++ r) ≡ has_at_depth (sought t) at false n r
   passes_plain true a s h n le r = passes t at h.2 n le r
   passes_plain false a s h n le r = passes t at h n le r
 
   mutual
-    pub passes_item : {refs : Bool} {one : Item} {s : Text} → SpellsItem refs one s → (n : ℕ) → at ≤ n → (r : Text) → seek (sought t) at false n (s ++ r) ≡ seek (sought t) at false n r
+    pub passes_item : {refs : Bool} {one : Item} {s : Text} → SpellsItem refs one s → (n : ℕ) → at ≤ n → (r : Text) → has_at_depth (sought t) at false n (s ++ r) ≡ has_at_depth (sought t) at false n r
     passes_item {refs} (plain_item {a = a} {s = s} h) n le r = passes_plain refs a s h n le r
     passes_item (implied_do {c = c} {s = s} {t = u} h g) n le r =
-        ap (seek (sought t) at false (suc n)) (append_assoc s (44 ∷ (u ++ 41 ∷ [])) r ∙ ap (λ x. s ++ 44 ∷ x) (append_assoc u (41 ∷ []) r))
+        ap (has_at_depth (sought t) at false (suc n)) (append_assoc s (44 ∷ (u ++ 41 ∷ [])) r ∙ ap (λ x. s ++ 44 ∷ x) (append_assoc u (41 ∷ []) r))
         ∙ passes_inside h n le (44 ∷ (u ++ 41 ∷ r))
         ∙ comma_inside t at n (u ++ 41 ∷ r) le
         ∙ passes_control u (control_text c u g) n le (41 ∷ r)
         ∙ closed t at n r le
 
-    passes_inside : {refs : Bool} {all : List Item} {s : Text} → SpellsItems refs all s → (n : ℕ) → at ≤ n → (r : Text) → seek (sought t) at false (suc n) (s ++ r) ≡ seek (sought t) at false (suc n) r
+    passes_inside : {refs : Bool} {all : List Item} {s : Text} → SpellsItems refs all s → (n : ℕ) → at ≤ n → (r : Text) → has_at_depth (sought t) at false (suc n) (s ++ r) ≡ has_at_depth (sought t) at false (suc n) r
     passes_inside (last_item h) n le r = passes_item h (suc n) (omega arith) r
     passes_inside (more_items {s = s} {t = u} h g) n le r =
-        ap (seek (sought t) at false (suc n)) (append_assoc s (44 ∷ u) r)
+        ap (has_at_depth (sought t) at false (suc n)) (append_assoc s (44 ∷ u) r)
         ∙ passes_item h (suc n) (omega arith) (44 ∷ (u ++ r))
         ∙ comma_inside t at n (u ++ r) le
         ∙ passes_inside g n le r
 
 -- no `=` stands outside parentheses in items
-pub items_quiet : {refs : Bool} {all : List Item} {s : Text} → SpellsItems refs all s → (r : Text) → seek 61 0 false 0 (s ++ r) ≡ seek 61 0 false 0 r
+pub items_quiet : {refs : Bool} {all : List Item} {s : Text} → SpellsItems refs all s → (r : Text) → has_at_depth 61 0 false 0 (s ++ r) ≡ has_at_depth 61 0 false 0 r
 items_quiet (last_item h) r = passes_item true 0 h 0 (omega arith) r
 items_quiet (more_items {s = s} {t = u} h g) r =
-    ap (seek 61 0 false 0) (append_assoc s (44 ∷ u) r)
+    ap (has_at_depth 61 0 false 0) (append_assoc s (44 ∷ u) r)
     ∙ passes_item true 0 h 0 (omega arith) (44 ∷ (u ++ r))
     ∙ items_quiet g r
 
@@ -135,7 +135,7 @@ group_closed (spelled.reference n {s = s} {t = t} is x y) r =
     let f = letter_first n is in
     ap is_implied (append_assoc n (s ++ t) r ∙ ap (λ x. x ++ ((s ++ t) ++ r)) f.2) ∙ (rw (other is_letter 40 f.0 refl f.3) refl)
 group_closed (parentheses {s = s} h) r =
-    ap (seek 44 1 false 1) (append_assoc s (41 ∷ []) r) ∙ passes false 1 h 1 (omega arith) (41 ∷ r)
+    ap (has_at_depth 44 1 false 1) (append_assoc s (41 ∷ []) r) ∙ passes false 1 h 1 (omega arith) (41 ∷ r)
 group_closed (lower h) r = group_closed h r
 group_closed (spelled.prefixed head_of.Plus h) r = refl
 group_closed (spelled.prefixed head_of.Neg h) r = refl
@@ -147,9 +147,9 @@ plain_closed true a s h r = group_closed h.2 r
 plain_closed false a s h r = group_closed h r
 
 -- those of an implied-DO list do
-listed : {refs : Bool} {all : List Item} {s : Text} → SpellsItems refs all s → (r : Text) → seek 44 1 false 1 (s ++ 44 ∷ r) ≡ true
+listed : {refs : Bool} {all : List Item} {s : Text} → SpellsItems refs all s → (r : Text) → has_at_depth 44 1 false 1 (s ++ 44 ∷ r) ≡ true
 listed (last_item h) r = passes_item false 1 h 1 (omega arith) (44 ∷ r)
-listed (more_items {s = s} {t = u} h g) r = ap (seek 44 1 false 1) (append_assoc s (44 ∷ u) (44 ∷ r)) ∙ passes_item false 1 h 1 (omega arith) (44 ∷ (u ++ 44 ∷ r))
+listed (more_items {s = s} {t = u} h g) r = ap (has_at_depth 44 1 false 1) (append_assoc s (44 ∷ u) (44 ∷ r)) ∙ passes_item false 1 h 1 (omega arith) (44 ∷ (u ++ 44 ∷ r))
 
 -- ---- no item begins as a control does
 
@@ -173,11 +173,11 @@ control_front (c ∷ s) r none e = by (is_alphanumeric c) refl (control_front s 
         let m : is_control (c ∷ s) ≡ (c == 61) = rw q refl in
         m ∙ sym k ∙ e
 
-control_sought : (s : Text) → is_control s ≡ true → seek 61 0 false 0 s ≡ true
+control_sought : (s : Text) → is_control s ≡ true → has_at_depth 61 0 false 0 s ≡ true
 control_sought [] e = cc
 control_sought (c ∷ s) e = by (is_alphanumeric c) refl (control_sought s)
   where
-    by : (t : Bool) → is_alphanumeric c ≡ t → (is_control s ≡ true → seek 61 0 false 0 s ≡ true) → seek 61 0 false 0 (c ∷ s) ≡ true
+    by : (t : Bool) → is_alphanumeric c ≡ t → (is_control s ≡ true → has_at_depth 61 0 false 0 s ≡ true) → has_at_depth 61 0 false 0 (c ∷ s) ≡ true
     by true q rest =
         let o : 1 + alphanumerics s ≡ suc (alphanumerics s) = omega arith in
         let k : is_control (c ∷ s) ≡ is_control s = rw (q, o) refl in
@@ -186,7 +186,7 @@ control_sought (c ∷ s) e = by (is_alphanumeric c) refl (control_sought s)
     by false q rest =
         let k : is_control (c ∷ s) ≡ (c == 61) = rw q refl in
         let m : c ≡ 61 = eqb-true c 61 (sym k ∙ e) in
-        ap (λ x. seek 61 0 false 0 (x ∷ s)) m
+        ap (λ x. has_at_depth 61 0 false 0 (x ∷ s)) m
 
 uncontrolled_end : (r : Text) → Next closes r → is_control r ≡ false
 uncontrolled_end [] h = refl
@@ -204,7 +204,7 @@ uncontrolled {s = s} h r n = by (is_control (s ++ r)) refl
     by false e = e
     by true e =
         let k = control_sought s (control_front s r (uncontrolled_end r n) e) in
-        let m : seek 61 0 false 0 s ≡ false = ap (seek 61 0 false 0) (sym (append-nil s)) ∙ passes_item true 0 h 0 (omega arith) [] in
+        let m : has_at_depth 61 0 false 0 s ≡ false = ap (has_at_depth 61 0 false 0) (sym (append-nil s)) ∙ passes_item true 0 h 0 (omega arith) [] in
         let x : true ≡ false = sym k ∙ m in
         cc
 

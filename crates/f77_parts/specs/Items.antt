@@ -9,7 +9,7 @@ use Rattle.f77_exprs.specs.Operators.{Text}
 use Rattle.f77_exprs.specs.Reading.{Parser, and_then, ◌>>=◌, ◌>>◌, pure, refuse, sees, alphanumerics}
 use Rattle.f77_forms.specs.Form.{Form, made, an_expr, a_ref, Spells, read, expect_word, a_part}
 use Rattle.f77_parts.specs.Parts.{control}
-use Rattle.f77_forms.specs.Seek.{seek}
+use Rattle.f77_forms.specs.Depth.{has_at_depth}
 
 -- a plain item: a ref of READ, an expr of PRINT
 abbrev pub plain : Bool → Form Expr
@@ -39,7 +39,7 @@ is_control i = sees 61 (drop (alphanumerics i) i)
 
 -- whether a text begins with parentheses that hold a comma
 abbrev pub is_implied : Text → Bool
-is_implied i = sees 40 i && seek 44 1 false 0 i
+is_implied i = sees 40 i && has_at_depth 44 1 false 0 i
 
 -- whether a comma comes next, and behind it another item
 abbrev pub goes_on : Text → Bool

@@ -4,12 +4,12 @@ use Rattle.std.specs.Char.{is_ascii_digit}
 use Rattle.f77_ast.specs.Name.{is_letter}
 use Rattle.f77_ast.specs.declared.expr.Expr.{Expr}
 use Rattle.f77_ast.specs.declared.expr.Ref.{Ref}
-use Rattle.f77_ast.specs.declared.initial.Constant.{Constant}
-use Rattle.f77_ast.specs.declared.initial.Constant.TheVariants as constant
-use Rattle.f77_ast.specs.declared.initial.DataGroup.{DataGroup}
-use Rattle.f77_ast.specs.declared.initial.DataValue.{DataValue}
-use Rattle.f77_ast.specs.declared.initial.Repeat.{Repeat}
-use Rattle.f77_ast.specs.declared.initial.Repeat.TheVariants as repeat
+use Rattle.f77_ast.specs.declared.data.DataConstant.{DataConstant}
+use Rattle.f77_ast.specs.declared.data.DataConstant.TheVariants as constant
+use Rattle.f77_ast.specs.declared.data.DataGroup.{DataGroup}
+use Rattle.f77_ast.specs.declared.data.DataValue.{DataValue}
+use Rattle.f77_ast.specs.declared.data.Repeat.{Repeat}
+use Rattle.f77_ast.specs.declared.data.Repeat.TheVariants as repeat
 use Rattle.f77_ast.specs.declared.specification.Bound.{Bound}
 use Rattle.f77_ast.specs.declared.specification.CommonGroup.{CommonGroup}
 use Rattle.f77_ast.specs.declared.specification.Declarator.{Declarator}
@@ -44,15 +44,15 @@ is_apostrophe c = c == 39
 -- ---- loops
 
 abbrev pub control_of : Text × (Expr × (Expr × Option Expr)) → LoopControl
-control_of v = record { variable = v.0; first = v.1.0; last = v.1.1.0; step = v.1.1.1 }
+control_of v = record { variable = v.0; first = v.1.0; last = v.1.1.0; increment = v.1.1.1 }
 
 -- [`,` expr]
-abbrev pub step : Form (Option Expr)
-step = maybe (codes ",") an_expr
+abbrev pub increment : Form (Option Expr)
+increment = maybe (codes ",") an_expr
 
 -- name `=` expr `,` expr [`,` expr] (sections 11.10 and 12.8.2.3)
 abbrev pub control : Form LoopControl
-control = made control_of (pair (before a_name (codes "=")) (pair (before an_expr (codes ",")) (pair an_expr step)))
+control = made control_of (pair (before a_name (codes "=")) (pair (before an_expr (codes ",")) (pair an_expr increment)))
 
 -- ---- lists in parentheses
 
@@ -249,40 +249,40 @@ save_entries = by_first is_any (list save_entry) (nothing [])
 -- ---- DATA
 
 -- digits
-abbrev pub positive : Form Constant
+abbrev pub positive : Form DataConstant
 positive = made (λ v. constant.Int v) a_number
 
 -- digits behind `-`
-abbrev pub negative : Form Constant
+abbrev pub negative : Form DataConstant
 negative = made (λ v. constant.Int (neg_ℤ v)) a_number
 
 -- `TRUE.`, or `FALSE.`
-abbrev pub truth : Form Constant
+abbrev pub truth : Form DataConstant
 truth = either (codes "TRUE.") (nothing (constant.Truth true)) (after (codes "FALSE.") (nothing (constant.Truth false)))
 
 -- a character constant
-abbrev pub quoted : Form Constant
+abbrev pub quoted : Form DataConstant
 quoted = made (λ v. constant.Chars v) a_constant
 
 -- name
-abbrev pub named_constant : Form Constant
+abbrev pub named_constant : Form DataConstant
 named_constant = made (λ n. constant.Named n) a_name
 
 -- `+` digits; `-` digits; `.TRUE.`; `.FALSE.`; a character constant (section 9.1)
-abbrev pub other_constant : Form Constant
+abbrev pub other_constant : Form DataConstant
 other_constant = either (codes "+") positive (either (codes "-") negative (either (codes ".") truth quoted))
 
 -- const: [`+` or `-`] digits; `.TRUE.`; `.FALSE.`; a character constant; name (section 9.1)
-abbrev pub data_constant : Form Constant
+abbrev pub data_constant : Form DataConstant
 data_constant = by_first is_ascii_digit positive (by_first is_letter named_constant other_constant)
 
 -- what is behind digits, or a name: the constant that is repeated, or nothing
-abbrev pub value_of : Repeat → Constant → Option Constant → DataValue
+abbrev pub value_of : Repeat → DataConstant → Option DataConstant → DataValue
 value_of times alone None = record { repeat = None; constant = alone }
 value_of times alone (Some one) = record { repeat = Some times; constant = one }
 
 -- [`*` const]
-abbrev pub repeated : Form (Option Constant)
+abbrev pub repeated : Form (Option DataConstant)
 repeated = maybe (codes "*") data_constant
 
 -- [digits `*`] const, where digits come first

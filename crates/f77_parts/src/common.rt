@@ -1,10 +1,10 @@
 //! The groups of COMMON (ANSI X3.9-1978, section 8.3).
-ghost use Rattle.std.specs.Prelude.{◌≡◌, ◌≤◌, ◌∷◌, [], length, IfOk};
+ghost use Rattle.std.specs.Prelude.{◌≡◌, ◌≤◌, ◌∷◌, [], length, IfOk, IsOkUnless};
 ghost use Rattle.f77_exprs.specs.Read.{Reads};
 ghost use Rattle.f77_forms.specs.Form.{read};
 ghost use Rattle.f77_parts.specs.Parts as parts;
 
-use crate::bounds::decl;
+use crate::declarators::decl;
 use f77_ast::name::Name;
 use f77_ast::specification::{CommonGroup, Declarator};
 use f77_exprs::reader::Reader;
@@ -27,6 +27,7 @@ pub enum CommonStep {
 fn block_name(reader: &mut Reader<'_>) -> Result<Option<Name>, Unread>
     ensures value { Reads (read 0 parts.block_name reader.old) result reader.new }
     ensures within { length reader.new ≤ length reader.old }
+    ensures err { IsOkUnless result Unread.Unspelled }
 {
     if reader.eat_word(b"/".as_slice()) {
         return Ok(None);
@@ -40,6 +41,7 @@ fn block_name(reader: &mut Reader<'_>) -> Result<Option<Name>, Unread>
 fn first_block(reader: &mut Reader<'_>) -> Result<Option<Name>, Unread>
     ensures value { Reads (read 0 parts.first_block reader.old) result reader.new }
     ensures within { length reader.new ≤ length reader.old }
+    ensures err { IsOkUnless result Unread.Unspelled }
 {
     if !reader.eat_word(b"/".as_slice()) {
         return Ok(None);

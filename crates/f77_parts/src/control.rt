@@ -13,8 +13,8 @@ use f77_forms::leaves::expect_word;
 use std::alloc::Global;
 
 /// [`,` expr]
-fn step(alloc: Global, reader: &mut Reader<'_>, depth: usize) -> Result<Option<Expr>, Unread>
-    ensures value { Reads (read depth spec.step reader.old) result reader.new }
+fn increment(alloc: Global, reader: &mut Reader<'_>, depth: usize) -> Result<Option<Expr>, Unread>
+    ensures value { Reads (read depth spec.increment reader.old) result reader.new }
     ensures within { length reader.new ≤ length reader.old }
 {
     if !reader.eat_word(b",".as_slice()) {
@@ -34,11 +34,11 @@ pub fn control(alloc: Global, reader: &mut Reader<'_>, depth: usize) -> Result<L
     let first = expr_within(alloc, reader, depth)?;
     expect_word(reader, b",".as_slice())?;
     let last = expr_within(alloc, reader, depth)?;
-    let step = step(alloc, reader, depth)?;
+    let increment = increment(alloc, reader, depth)?;
     Ok(LoopControl {
         variable,
         first,
         last,
-        step,
+        increment,
     })
 }

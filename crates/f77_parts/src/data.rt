@@ -1,61 +1,64 @@
 //! The parts of DATA (ANSI X3.9-1978, section 9.1).
-ghost use Rattle.std.specs.Prelude.{◌≡◌, ◌≤◌, ℕ, length};
+ghost use Rattle.std.specs.Prelude.{◌≡◌, ◌≤◌, ℕ, length, IsOkUnless};
 ghost use Rattle.f77_exprs.specs.Read.{Reads};
 ghost use Rattle.f77_forms.specs.Form.{read};
 ghost use Rattle.f77_parts.specs.Parts as parts;
 
 use crate::sees::{sees_digit, sees_letter};
-use crate::shared::AWholeRef;
-use f77_ast::initial::{Constant, DataGroup, DataValue, Repeat};
+use crate::specifications::AWholeRef;
+use f77_ast::data::{DataConstant, DataGroup, DataValue, Repeat};
 use f77_ast::name::Name;
 use f77_exprs::reader::Reader;
 use f77_exprs::unread::Unread;
 use f77_forms::leaves::{a_constant, a_number, expect_word};
-use f77_forms::list::{Part, list, many, with_first};
+use f77_forms::list::{Production, list, many, with_first};
 use sqlite_items::Items;
 use std::alloc::Global;
 
 /// `TRUE.`, or `FALSE.`
-fn truth(reader: &mut Reader<'_>) -> Result<Constant, Unread>
+fn truth(reader: &mut Reader<'_>) -> Result<DataConstant, Unread>
     ensures value { Reads (read 0 parts.truth reader.old) result reader.new }
     ensures within { length reader.new ≤ length reader.old }
+    ensures err { IsOkUnless result Unread.Unspelled }
 {
     if reader.eat_word(b"TRUE.".as_slice()) {
-        return Ok(Constant::Truth(true));
+        return Ok(DataConstant::Truth(true));
     }
     expect_word(reader, b"FALSE.".as_slice())?;
-    Ok(Constant::Truth(false))
+    Ok(DataConstant::Truth(false))
 }
 
 /// digits behind `-`
-fn negative(reader: &mut Reader<'_>) -> Result<Constant, Unread>
+fn negative(reader: &mut Reader<'_>) -> Result<DataConstant, Unread>
     ensures value { Reads (read 0 parts.negative reader.old) result reader.new }
     ensures within { length reader.new ≤ length reader.old }
+    ensures err { IsOkUnless result Unread.Unspelled }
 {
     let value = a_number(reader)?;
-    Ok(Constant::Int(-value))
+    Ok(DataConstant::Int(-value))
 }
 
 /// digits
-fn positive(reader: &mut Reader<'_>) -> Result<Constant, Unread>
+fn positive(reader: &mut Reader<'_>) -> Result<DataConstant, Unread>
     ensures value { Reads (read 0 parts.positive reader.old) result reader.new }
     ensures within { length reader.new ≤ length reader.old }
+    ensures err { IsOkUnless result Unread.Unspelled }
 {
     let value = a_number(reader)?;
-    Ok(Constant::Int(value))
+    Ok(DataConstant::Int(value))
 }
 
 /// a character constant
-fn quoted(alloc: Global, reader: &mut Reader<'_>) -> Result<Constant, Unread>
+fn quoted(alloc: Global, reader: &mut Reader<'_>) -> Result<DataConstant, Unread>
     ensures value { Reads (read 0 parts.quoted reader.old) result reader.new }
     ensures within { length reader.new ≤ length reader.old }
 {
     let value = a_constant(alloc, reader)?;
-    Ok(Constant::Chars(value))
+    Ok(DataConstant::Chars(value))
 }
 
 /// a sign and digits; `.TRUE.`; `.FALSE.`; a character constant (ANSI X3.9-1978, section 9.1)
-fn other_constant(alloc: Global, reader: &mut Reader<'_>) -> Result<Constant, Unread>
+fn other_constant(alloc: Global, reader: &mut Reader<'_>) -> Result<DataConstant, Unread>
     ensures value { Reads (read 0 parts.other_constant reader.old) result reader.new }
     ensures within { length reader.new ≤ length reader.old }
 {
@@ -72,16 +75,17 @@ fn other_constant(alloc: Global, reader: &mut Reader<'_>) -> Result<Constant, Un
 }
 
 /// name
-fn named_constant(reader: &mut Reader<'_>) -> Result<Constant, Unread>
+fn named_constant(reader: &mut Reader<'_>) -> Result<DataConstant, Unread>
     ensures value { Reads (read 0 parts.named_constant reader.old) result reader.new }
     ensures within { length reader.new ≤ length reader.old }
+    ensures err { IsOkUnless result Unread.Unspelled }
 {
     let name = reader.name()?;
-    Ok(Constant::Named(name))
+    Ok(DataConstant::Named(name))
 }
 
 /// const: [`+` or `-`] digits; `.TRUE.`; `.FALSE.`; a character constant; name (ANSI X3.9-1978, section 9.1)
-fn data_constant(alloc: Global, reader: &mut Reader<'_>) -> Result<Constant, Unread>
+fn data_constant(alloc: Global, reader: &mut Reader<'_>) -> Result<DataConstant, Unread>
     ensures value { Reads (read 0 parts.data_constant reader.old) result reader.new }
     ensures within { length reader.new ≤ length reader.old }
 {
@@ -95,7 +99,7 @@ fn data_constant(alloc: Global, reader: &mut Reader<'_>) -> Result<Constant, Unr
 }
 
 /// [`*` const]
-fn repeated(alloc: Global, reader: &mut Reader<'_>) -> Result<Option<Constant>, Unread>
+fn repeated(alloc: Global, reader: &mut Reader<'_>) -> Result<Option<DataConstant>, Unread>
     ensures value { Reads (read 0 parts.repeated reader.old) result reader.new }
     ensures within { length reader.new ≤ length reader.old }
 {
@@ -107,7 +111,7 @@ fn repeated(alloc: Global, reader: &mut Reader<'_>) -> Result<Option<Constant>, 
 }
 
 /// The value of a repeat and a constant: the constant alone is the repeat itself.
-fn value_of(repeat: Repeat, alone: Constant, constant: Option<Constant>) -> DataValue
+fn value_of(repeat: Repeat, alone: DataConstant, constant: Option<DataConstant>) -> DataValue
     ensures { result ≡ parts.value_of repeat alone constant }
 {
     match constant {
@@ -129,7 +133,7 @@ fn digits_value(alloc: Global, reader: &mut Reader<'_>) -> Result<DataValue, Unr
 {
     let value = a_number(reader)?;
     let constant = repeated(alloc, reader)?;
-    Ok(value_of(Repeat::Digits(value), Constant::Int(value), constant))
+    Ok(value_of(Repeat::Digits(value), DataConstant::Int(value), constant))
 }
 
 /// [repeat `*`] const, which begins with a name
@@ -140,10 +144,10 @@ fn name_value(alloc: Global, reader: &mut Reader<'_>) -> Result<DataValue, Unrea
     let name = reader.name()?;
     let constant = repeated(alloc, reader)?;
     let copy = name.copy();
-    Ok(value_of(Repeat::Named(name), Constant::Named(copy), constant))
+    Ok(value_of(Repeat::Named(name), DataConstant::Named(copy), constant))
 }
 
-/// const, which begins with neither
+/// const, which begins with neither digits nor a name
 fn other_value(alloc: Global, reader: &mut Reader<'_>) -> Result<DataValue, Unread>
     ensures value { Reads (read 0 parts.other_value reader.old) result reader.new }
     ensures within { length reader.new ≤ length reader.old }
@@ -172,7 +176,7 @@ fn data_value(alloc: Global, reader: &mut Reader<'_>) -> Result<DataValue, Unrea
 /// [repeat `*`] const
 pub struct AValue;
 
-impl Part for AValue {
+impl Production for AValue {
     type Tree = DataValue;
 
     ghost reading = { λ depth. read depth parts.data_value };
@@ -206,7 +210,7 @@ fn later_group(alloc: Global, reader: &mut Reader<'_>, depth: usize) -> Result<D
 /// [`,`] and a group behind the first
 pub struct ALaterGroup;
 
-impl Part for ALaterGroup {
+impl Production for ALaterGroup {
     type Tree = DataGroup;
 
     ghost reading = { λ depth. read depth parts.later_group };

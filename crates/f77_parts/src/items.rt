@@ -10,8 +10,8 @@ use f77_ast::stmt::Item;
 use f77_exprs::grammar::expr_within;
 use f77_exprs::reader::{Reader, alphanumerics};
 use f77_exprs::unread::Unread;
+use f77_forms::depth::has_at_depth;
 use f77_forms::leaves::{a_ref, expect_word};
-use f77_forms::seek::seek;
 use sqlite_items::Items;
 use std::alloc::Global;
 
@@ -39,7 +39,7 @@ pub fn is_control(text: &[u8]) -> bool
 fn is_implied(text: &[u8]) -> bool
     ensures { result ≡ items.is_implied text.now }
 {
-    matches!(text, [b'(', ..]) && seek(b',', 1, text)
+    matches!(text, [b'(', ..]) && has_at_depth(b',', 1, text)
 }
 
 /// Whether a comma comes next, and behind it another item.

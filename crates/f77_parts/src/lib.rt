@@ -5,12 +5,12 @@
 //! Each is a form, which a function reads.
 #![tactic(auto)]
 
-pub mod bounds;
 pub mod common;
 pub mod control;
 pub mod data;
+pub mod declarators;
 pub mod items;
-pub mod lengths;
-pub mod names;
+pub mod lists;
 pub mod sees;
-pub mod shared;
+pub mod specifications;
+pub mod types;

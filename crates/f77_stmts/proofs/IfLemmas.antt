@@ -8,7 +8,7 @@ use Rattle.f77_ast.specs.declared.expr.Expr.{Expr}
 use Rattle.f77_ast.specs.declared.expr.Expr.TheVariants as expr
 use Rattle.f77_ast.specs.declared.stmt.Stmt.{Stmt}
 use Rattle.f77_exprs.specs.Operators.{Text}
-use Rattle.f77_exprs.specs.Spelling.{whole, Spells, reference_of, part_of}
+use Rattle.f77_exprs.specs.Spelling.{top_level, Spells, reference_of, part_of}
 use Rattle.f77_exprs.specs.Reading.{Outcome, ◌>>=◌, ◌>>◌, pure, sees, eat, expect, name, bound, more_arguments, arguments, substring, with_part, with_low, with_first, opened, reference, expr_within}
 use Rattle.f77_exprs.proofs.Complete.{bind, eats_no, closing}
 use Rattle.f77_exprs.proofs.Induction.{starts, expr_is_read}
@@ -22,7 +22,7 @@ use Rattle.f77_forms.proofs.Forms.{next, complete}
 use Rattle.f77_forms.proofs.LeafLemmas.{Next, read_reference}
 
 -- an IF with its condition, as a reference is read
-if_reference : (d : ℕ) (a : Expr) (s t : Text) → length s < d → Spells whole a s → sees 40 t ≡ false → reference (expr_within d) (codes "IF(" ++ (s ++ 41 ∷ t)) ≡ Some (reference_of (codes "IF") (Some (a ∷ [])) None, t)
+if_reference : (d : ℕ) (a : Expr) (s t : Text) → length s < d → Spells top_level a s → sees 40 t ≡ false → reference (expr_within d) (codes "IF(" ++ (s ++ 41 ∷ t)) ≡ Some (reference_of (codes "IF") (Some (a ∷ [])) None, t)
 unfolding reference opened with_first with_part arguments substring
 if_reference d a s t lt h none =
     let n = codes "IF" in
@@ -54,7 +54,7 @@ no_parenthesis c e = by (c == 40) refl
     by true k = let m : c ≡ 40 = eqb-true c 40 k in apart (is_alphanumeric c) e (ap is_alphanumeric m)
 
 -- where a letter or a digit stands behind the condition, no assignment is spelled
-pub if_unassigned : (a : Expr) (s : Text) (c : ℕ) (r : Text) → Spells whole a s → is_alphanumeric c ≡ true → (w : Stmt) → form.Spells assignment w (codes "IF(" ++ (s ++ 41 ∷ c ∷ r)) → ⊥
+pub if_unassigned : (a : Expr) (s : Text) (c : ℕ) (r : Text) → Spells top_level a s → is_alphanumeric c ≡ true → (w : Stmt) → form.Spells assignment w (codes "IF(" ++ (s ++ 41 ∷ c ∷ r)) → ⊥
 if_unassigned a s c r h alnum w g =
     let text = codes "IF(" ++ (s ++ 41 ∷ c ∷ r) in
     let p = g.2 in
@@ -71,7 +71,7 @@ if_unassigned a s c r h alnum w g =
     apart (is_alphanumeric c) alnum (ap is_alphanumeric (sym k))
 
 -- the condition, as it is read
-pub condition_read : (d : ℕ) (a : Expr) (s t : Text) → length s + 1 < d → Spells whole a s → read d condition (s ++ 41 ∷ t) ≡ Some (a, t)
+pub condition_read : (d : ℕ) (a : Expr) (s t : Text) → length s + 1 < d → Spells top_level a s → read d condition (s ++ 41 ∷ t) ≡ Some (a, t)
 condition_read d a s t lt h =
     let l = length-append s (41 ∷ []) in
     ap (read d condition) (sym (append_assoc s (41 ∷ []) t))

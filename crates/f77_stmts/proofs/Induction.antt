@@ -12,7 +12,7 @@ use Rattle.f77_ast.specs.declared.stmt.Stmt.{Stmt}
 use Rattle.f77_ast.specs.declared.stmt.Stmt.TheVariants as stmt
 use Rattle.f77_exprs.specs.Operators.{Text, begins}
 use Rattle.f77_exprs.specs.Spelling.{SpellsExpr}
-use Rattle.f77_exprs.specs.Reading.{Outcome, is_empty}
+use Rattle.f77_exprs.specs.Reading.{Outcome, is_empty, all_of}
 use Rattle.f77_exprs.proofs.Primaries.{letter_first, digit_first}
 use Rattle.f77_exprs.proofs.Sound.{Holds}
 use Rattle.f77_exprs.proofs.Words.{begins_splits, drop_all, passing}
@@ -22,9 +22,9 @@ use Rattle.f77_stmts.specs.Answer.{Answers}
 use Rattle.f77_stmts.specs.Cause.{code_of}
 use Rattle.f77_forms.specs.Form.{Spells, passes, read}
 use Rattle.f77_stmts.specs.Rows.{spelling, keywords, is_action, is_here, keyword_at, assignment, three_labels, jumps, rule}
-use Rattle.f77_forms.specs.Seek.{seek}
+use Rattle.f77_forms.specs.Depth.{has_at_depth}
 use Rattle.f77_stmts.specs.Spelling.{SpellsAction, assign, action, arithmetic_if, SpellsStmt, simple, row, block_if, logical_if}
-use Rattle.f77_stmts.specs.Statement.{whole, or_else, condition, behind_word, begun, by_word, arithmetic, jumps_behind, if_by, is_if, action_within, is_then, any_behind, statement_within, statement_of}
+use Rattle.f77_stmts.specs.Statement.{or_else, condition, behind_word, begun, by_word, arithmetic, jumps_behind, if_by, is_if, action_within, is_then, any_behind, statement_within, statement_of}
 use Rattle.f77_forms.proofs.Forms.{head, complete, sound, Front}
 use Rattle.f77_stmts.proofs.IfLemmas.{if_unassigned, condition_read}
 use Rattle.f77_forms.proofs.LeafLemmas.{shape}
@@ -33,7 +33,7 @@ use Rattle.f77_stmts.proofs.RowLemmas.{row_complete, row_sound, keyword_found, n
 -- ---- whole texts
 
 -- what is read of a whole text is spelled
-whole_spelled : {A : Type 0} (R : A → Text → Type 0) (i : Text) (o : Outcome A) (v : A) → Holds (λ a r. (s : Text) × (i ≡ s ++ r) × R a s) o → whole o ≡ Some v → R v i
+whole_spelled : {A : Type 0} (R : A → Text → Type 0) (i : Text) (o : Outcome A) (v : A) → Holds (λ a r. (s : Text) × (i ≡ s ++ r) × R a s) o → all_of o ≡ Some v → R v i
 whole_spelled R i None v h e = cc
 whole_spelled R i (Some (a, [])) v h e =
     let t : i ≡ h.0 = h.1 ∙ append-nil h.0 in
@@ -41,22 +41,22 @@ whole_spelled R i (Some (a, [])) v h e =
     subst (λ x. R x i) k (subst (R a) (sym t) h.2)
 whole_spelled R i (Some (a, c ∷ r)) v h e = cc
 
-whole_assigned : (d : ℕ) (i : Text) (v : Stmt) → whole (read d assignment i) ≡ Some v → Spells assignment v i
+whole_assigned : (d : ℕ) (i : Text) (v : Stmt) → all_of (read d assignment i) ≡ Some v → Spells assignment v i
 whole_assigned d i v e = whole_spelled (Spells assignment) i (read d assignment i) v (sound assignment refl d i) e
 
 -- where no assignment is spelled none is read
-unassigned : (d : ℕ) (i : Text) → ((w : Stmt) → Spells assignment w i → ⊥) → whole (read d assignment i) ≡ None
-unassigned d i h = by (whole (read d assignment i)) refl
+unassigned : (d : ℕ) (i : Text) → ((w : Stmt) → Spells assignment w i → ⊥) → all_of (read d assignment i) ≡ None
+unassigned d i h = by (all_of (read d assignment i)) refl
   where
-    by : (o : Option Stmt) → whole (read d assignment i) ≡ o → whole (read d assignment i) ≡ None
+    by : (o : Option Stmt) → all_of (read d assignment i) ≡ o → all_of (read d assignment i) ≡ None
     by None e = e
     by (Some v) e = absurd (h v (whole_assigned d i v e))
 
-assigned_read : (d : ℕ) (i : Text) (v : Stmt) → length i < d → Spells assignment v i → whole (read d assignment i) ≡ Some v
-assigned_read d i v lt h = ap whole (ap (read d assignment) (sym (append-nil i)) ∙ complete assignment refl d v i [] lt h tt)
+assigned_read : (d : ℕ) (i : Text) (v : Stmt) → length i < d → Spells assignment v i → all_of (read d assignment i) ≡ Some v
+assigned_read d i v lt h = ap all_of (ap (read d assignment) (sym (append-nil i)) ∙ complete assignment refl d v i [] lt h tt)
 
-labels_read : (d : ℕ) (t : Text) (v : ℕ × (ℕ × ℕ)) → length t < d → Spells three_labels v t → whole (read d three_labels t) ≡ Some v
-labels_read d t v lt h = ap whole (ap (read d three_labels) (sym (append-nil t)) ∙ complete three_labels refl d v t [] lt h tt)
+labels_read : (d : ℕ) (t : Text) (v : ℕ × (ℕ × ℕ)) → length t < d → Spells three_labels v t → all_of (read d three_labels t) ≡ Some v
+labels_read d t v lt h = ap all_of (ap (read d three_labels) (sym (append-nil t)) ∙ complete three_labels refl d v t [] lt h tt)
 
 -- ---- what stands behind a condition
 
@@ -110,7 +110,7 @@ apart false e f = cc
 
 -- `THEN` is no action
 no_action_then : {v : Stmt} {t : Text} → SpellsAction v t → t ≡ codes "THEN" → ⊥
-no_action_then (assign v s h) e = apart (seek 61 0 false 0 s) (assigned v s h) (ap (seek 61 0 false 0) e)
+no_action_then (assign v s h) e = apart (has_at_depth 61 0 false 0 s) (assigned v s h) (ap (has_at_depth 61 0 false 0) e)
 no_action_then (action k v s ok h) e = let w : Some k ≡ None = sym (keyword_found k v s h) ∙ ap keyword_at e in cc
 no_action_then (arithmetic_if v t h g) e = let k : true ≡ false = ap is_if e in cc
 
@@ -136,23 +136,23 @@ row_read : (all : Bool) (k : Keyword) (v : Stmt) (s : Text) → (all || is_actio
 unfolding by_word
 row_read all k v s ok h d lt =
     ap (begun all d (spelling k ++ s)) (keyword_found k v s h)
-    ∙ chosen (all || is_action k) (whole (read d (rule k) (behind_word k (spelling k ++ s)))) None ok
-    ∙ ap (λ x. whole (read d (rule k) x)) (drop_all (spelling k) s)
-    ∙ ap whole (row_complete k v s h d lt)
+    ∙ chosen (all || is_action k) (all_of (read d (rule k) (behind_word k (spelling k ++ s)))) None ok
+    ∙ ap (λ x. all_of (read d (rule k) x)) (drop_all (spelling k) s)
+    ∙ ap all_of (row_complete k v s h d lt)
   where
     chosen : (t : Bool) (x y : Option Stmt) → t ≡ true → (if t then x else y) ≡ x
     chosen true x y e = refl
     chosen false x y e = cc
 
 -- what is read of a text without an assignment
-by_if : (next : Expr → Text → Option Stmt) (d : ℕ) (i : Text) (other : Option Stmt) → whole (read d assignment i) ≡ None → or_else (whole (read d assignment i)) (if is_if i then if_by next (read d condition (drop 3 i)) else other) ≡ (if is_if i then if_by next (read d condition (drop 3 i)) else other)
+by_if : (next : Expr → Text → Option Stmt) (d : ℕ) (i : Text) (other : Option Stmt) → all_of (read d assignment i) ≡ None → or_else (all_of (read d assignment i)) (if is_if i then if_by next (read d condition (drop 3 i)) else other) ≡ (if is_if i then if_by next (read d condition (drop 3 i)) else other)
 by_if next d i other e = ap (λ o. or_else o (if is_if i then if_by next (read d condition (drop 3 i)) else other)) e
 
 longer : (k : Keyword) (s : Text) → length s ≤ length (spelling k ++ s)
 longer k s = let l = length-append (spelling k) s in omega arith
 
 word_statement : (next : Expr → Text → Option Stmt) (all : Bool) (k : Keyword) (v : Stmt) (s : Text) → (all || is_action k) ≡ true → Spells (rule k) v s → (d : ℕ) → length (spelling k ++ s) < d
-    → or_else (whole (read d assignment (spelling k ++ s))) (if is_if (spelling k ++ s) then if_by next (read d condition (drop 3 (spelling k ++ s))) else by_word all d (spelling k ++ s)) ≡ Some v
+    → or_else (all_of (read d assignment (spelling k ++ s))) (if is_if (spelling k ++ s) then if_by next (read d condition (drop 3 (spelling k ++ s))) else by_word all d (spelling k ++ s)) ≡ Some v
 word_statement next all k v s ok h d lt =
     let i = spelling k ++ s in
     let l = longer k s in
@@ -161,7 +161,7 @@ word_statement next all k v s ok h d lt =
     ∙ row_read all k v s ok h d (omega arith)
 
 if_statement : (next : Expr → Text → Option Stmt) (a : Expr) (s : Text) (c : ℕ) (r : Text) → SpellsExpr s a → is_alphanumeric c ≡ true → (d : ℕ) (other : Option Stmt) → length (codes "IF(" ++ (s ++ 41 ∷ c ∷ r)) < d
-    → or_else (whole (read d assignment (codes "IF(" ++ (s ++ 41 ∷ c ∷ r)))) (if_by next (read d condition (s ++ 41 ∷ c ∷ r))) ≡ next a (c ∷ r)
+    → or_else (all_of (read d assignment (codes "IF(" ++ (s ++ 41 ∷ c ∷ r)))) (if_by next (read d condition (s ++ 41 ∷ c ∷ r))) ≡ next a (c ∷ r)
 if_statement next a s c r h alnum d other lt =
     let l = length-append s (41 ∷ c ∷ r) in
     ap (λ o. or_else o (if_by next (read d condition (s ++ 41 ∷ c ∷ r)))) (unassigned d (codes "IF(" ++ (s ++ 41 ∷ c ∷ r)) (if_unassigned a s c r h alnum))
@@ -177,7 +177,7 @@ action_read (action k v s ok h) d lt = word_statement (jumps_behind d) false k v
 action_read (arithmetic_if {a = a} v {s = s} t h g) d lt =
     let b = labels_begin v t g in
     let l = length-append s (41 ∷ t) in
-    ap (λ x. or_else (whole (read d assignment (codes "IF(" ++ (s ++ 41 ∷ x)))) (if_by (jumps_behind d) (read d condition (s ++ 41 ∷ x)))) b.2
+    ap (λ x. or_else (all_of (read d assignment (codes "IF(" ++ (s ++ 41 ∷ x)))) (if_by (jumps_behind d) (read d condition (s ++ 41 ∷ x)))) b.2
     ∙ if_statement (jumps_behind d) a s b.0 b.1 h (digit_is b.0 b.3) d None (let m = ap length b.2 in let n = length-append s (41 ∷ b.0 ∷ b.1) in omega arith)
     ∙ (rw b.3 refl)
     ∙ ap (arithmetic d a) (sym b.2)
@@ -190,7 +190,7 @@ statement_read (simple (action k v s ok h)) d lt = word_statement (any_behind d)
 statement_read (simple (arithmetic_if {a = a} v {s = s} t h g)) d lt =
     let b = labels_begin v t g in
     let l = length-append s (41 ∷ t) in
-    ap (λ x. or_else (whole (read d assignment (codes "IF(" ++ (s ++ 41 ∷ x)))) (if_by (any_behind d) (read d condition (s ++ 41 ∷ x)))) b.2
+    ap (λ x. or_else (all_of (read d assignment (codes "IF(" ++ (s ++ 41 ∷ x)))) (if_by (any_behind d) (read d condition (s ++ 41 ∷ x)))) b.2
     ∙ if_statement (any_behind d) a s b.0 b.1 h (digit_is b.0 b.3) d None (let m = ap length b.2 in let n = length-append s (41 ∷ b.0 ∷ b.1) in omega arith)
     ∙ (rw b.3 refl)
     ∙ ap (arithmetic d a) (sym b.2)
@@ -200,7 +200,7 @@ statement_read (block_if {a = a} {s = s} h) d lt = if_statement (any_behind d) a
 statement_read (logical_if {a = a} {v = v} {s = s} {t = t} h g) d lt =
     let b = action_begins g in
     let l = length-append s (41 ∷ t) in
-    ap (λ x. or_else (whole (read d assignment (codes "IF(" ++ (s ++ 41 ∷ x)))) (if_by (any_behind d) (read d condition (s ++ 41 ∷ x)))) b.2
+    ap (λ x. or_else (all_of (read d assignment (codes "IF(" ++ (s ++ 41 ∷ x)))) (if_by (any_behind d) (read d condition (s ++ 41 ∷ x)))) b.2
     ∙ if_statement (any_behind d) a s b.0 b.1 h (letter_is b.0 b.3) d None (let m = ap length b.2 in let n = length-append s (41 ∷ b.0 ∷ b.1) in omega arith)
     ∙ ap (any_behind d a) (sym b.2)
     ∙ ap (λ u. if u then arithmetic d a t else (if is_then t then Some (stmt.BlockIf a) else option_map (λ v. stmt.LogicalIf a v) (action_within d t))) (ap (passes is_ascii_digit) b.2 ∙ letter_no_digit b.0 b.3)
@@ -241,16 +241,16 @@ whole_sound : (P : Stmt → Type 0) (o : Option Stmt) → ((v : Stmt) → o ≡ 
 whole_sound P None h = tt
 whole_sound P (Some v) h = h v refl
 
-assigned_sound : (P : Stmt → Type 0) (d : ℕ) (i : Text) → ((v : Stmt) → Spells assignment v i → P v) → If P (whole (read d assignment i))
-assigned_sound P d i h = whole_sound P (whole (read d assignment i)) (λ v e. h v (whole_assigned d i v e))
+assigned_sound : (P : Stmt → Type 0) (d : ℕ) (i : Text) → ((v : Stmt) → Spells assignment v i → P v) → If P (all_of (read d assignment i))
+assigned_sound P d i h = whole_sound P (all_of (read d assignment i)) (λ v e. h v (whole_assigned d i v e))
 
 word_sound : (P : Stmt → Type 0) (all : Bool) (d : ℕ) (i : Text) → ((k : Keyword) (v : Stmt) (s : Text) → i ≡ spelling k ++ s → (all || is_action k) ≡ true → Spells (rule k) v s → P v) → If P (by_word all d i)
 unfolding by_word
 word_sound P all d i h = by (keyword_at i) refl
   where
-    inner : (k : Keyword) → keyword_at i ≡ Some k → (t : Bool) → (all || is_action k) ≡ t → If P (if t then whole (read d (rule k) (behind_word k i)) else None)
+    inner : (k : Keyword) → keyword_at i ≡ Some k → (t : Bool) → (all || is_action k) ≡ t → If P (if t then all_of (read d (rule k) (behind_word k i)) else None)
     inner k e false ok = tt
-    inner k e true ok = whole_sound P (whole (read d (rule k) (behind_word k i))) (λ v w. h k v (behind_word k i) (begins_splits (spelling k) i (passing is_here keywords i k e)) ok (whole_spelled (Spells (rule k)) (behind_word k i) (read d (rule k) (behind_word k i)) v (row_sound k d (behind_word k i)) w))
+    inner k e true ok = whole_sound P (all_of (read d (rule k) (behind_word k i))) (λ v w. h k v (behind_word k i) (begins_splits (spelling k) i (passing is_here keywords i k e)) ok (whole_spelled (Spells (rule k)) (behind_word k i) (read d (rule k) (behind_word k i)) v (row_sound k d (behind_word k i)) w))
 
     by : (o : Option Keyword) → keyword_at i ≡ o → If P (begun all d i o)
     by None e = tt
@@ -272,7 +272,7 @@ mapped P f None h = tt
 mapped P f (Some v) h = h v refl
 
 arithmetic_sound : (P : Stmt → Type 0) (d : ℕ) (a : Expr) (t : Text) → ((v : ℕ × (ℕ × ℕ)) → Spells three_labels v t → P (jumps a v)) → If P (arithmetic d a t)
-arithmetic_sound P d a t h = mapped P (jumps a) (whole (read d three_labels t)) (λ v e. h v (whole_spelled (Spells three_labels) t (read d three_labels t) v (sound three_labels refl d t) e))
+arithmetic_sound P d a t h = mapped P (jumps a) (all_of (read d three_labels t)) (λ v e. h v (whole_spelled (Spells three_labels) t (read d three_labels t) v (sound three_labels refl d t) e))
 
 abbrev IsAction : Text → Stmt → Type 0
 IsAction i v = SpellsAction v i
@@ -285,7 +285,7 @@ is_arithmetic a x t i h e v g = subst (SpellsAction (jumps a v)) (sym e) (arithm
 
 action_sound : (d : ℕ) (i : Text) → If (IsAction i) (action_within d i)
 unfolding action_within
-action_sound d i = or_sound (IsAction i) (whole (read d assignment i)) (if is_if i then if_by (jumps_behind d) (read d condition (drop 3 i)) else by_word false d i)
+action_sound d i = or_sound (IsAction i) (all_of (read d assignment i)) (if is_if i then if_by (jumps_behind d) (read d condition (drop 3 i)) else by_word false d i)
     (assigned_sound (IsAction i) d i (λ v h. assign v i h))
     (cases_sound (IsAction i) (is_if i) (if_by (jumps_behind d) (read d condition (drop 3 i))) (by_word false d i)
     (λ e. if_sound (IsAction i) (jumps_behind d) d i e (λ a x t h w. cases_sound (IsAction i) (passes is_ascii_digit t) (arithmetic d a t) None (λ _. arithmetic_sound (IsAction i) d a t (is_arithmetic a x t i h w)) tt))
@@ -293,7 +293,7 @@ action_sound d i = or_sound (IsAction i) (whole (read d assignment i)) (if is_if
 
 statement_sound : (d : ℕ) (i : Text) → If (IsStatement i) (statement_within d i)
 unfolding statement_within
-statement_sound d i = or_sound (IsStatement i) (whole (read d assignment i)) (if is_if i then if_by (any_behind d) (read d condition (drop 3 i)) else by_word true d i)
+statement_sound d i = or_sound (IsStatement i) (all_of (read d assignment i)) (if is_if i then if_by (any_behind d) (read d condition (drop 3 i)) else by_word true d i)
     (assigned_sound (IsStatement i) d i (λ v h. simple (assign v i h)))
     (cases_sound (IsStatement i) (is_if i) (if_by (any_behind d) (read d condition (drop 3 i))) (by_word true d i)
     (λ e. if_sound (IsStatement i) (any_behind d) d i e (λ a x t h w. cases_sound (IsStatement i) (passes is_ascii_digit t) (arithmetic d a t) (if is_then t then Some (stmt.BlockIf a) else option_map (λ v. stmt.LogicalIf a v) (action_within d t))

@@ -17,11 +17,11 @@ use Rattle.f77_parts.specs.Parts.{is_any, control}
 use Rattle.f77_parts.specs.Items.{SpellsItems, items_within}
 use Rattle.f77_stmts.specs.Rows.{spelling, keyword_at, assignment, printed, written, rule}
 use Rattle.f77_stmts.specs.Statement.{is_if}
-use Rattle.f77_forms.specs.Seek.{seek}
+use Rattle.f77_forms.specs.Depth.{has_at_depth}
 use Rattle.f77_stmts.proofs.Clear.{is_plain, rule_is_clear}
 use Rattle.f77_forms.proofs.Forms.{complete, sound, Front, word_sound}
 use Rattle.f77_parts.proofs.ItemLemmas.{control_text, items_quiet, complete_items, items_sound, items_filled}
-use Rattle.f77_forms.proofs.SeekLemmas.{passes as scans, passes_name, passes_digits, rise, rises}
+use Rattle.f77_forms.proofs.DepthLemmas.{passes as scans, passes_name, passes_digits, rise, rises}
 
 -- ---- what is spelled is read
 
@@ -104,18 +104,18 @@ no_if k s = refl
 
 -- ---- an assignment has one `=` outside parentheses, and no comma
 
-pub assigned : (v : Stmt) (s : Text) → Spells assignment v s → seek 61 0 false 0 s ≡ true
+pub assigned : (v : Stmt) (s : Text) → Spells assignment v s → has_at_depth 61 0 false 0 s ≡ true
 assigned v s h =
     let p = h.2 in
-    ap (seek 61 0 false 0) (p.2 ∙ ap (λ x. x ++ p.1) p.3.1 ∙ append_assoc p.3.0 (61 ∷ []) p.1)
+    ap (has_at_depth 61 0 false 0) (p.2 ∙ ap (λ x. x ++ p.1) p.3.1 ∙ append_assoc p.3.0 (61 ∷ []) p.1)
     ∙ scans true 0 p.3.2 0 (omega arith) (61 ∷ p.1)
 
-no_comma_assigned : (v : Stmt) (s : Text) → Spells assignment v s → seek 44 0 false 0 s ≡ false
+no_comma_assigned : (v : Stmt) (s : Text) → Spells assignment v s → has_at_depth 44 0 false 0 s ≡ false
 no_comma_assigned v s h =
     let p = h.2 in
-    ap (seek 44 0 false 0) (p.2 ∙ ap (λ x. x ++ p.1) p.3.1 ∙ append_assoc p.3.0 (61 ∷ []) p.1)
+    ap (has_at_depth 44 0 false 0) (p.2 ∙ ap (λ x. x ++ p.1) p.3.1 ∙ append_assoc p.3.0 (61 ∷ []) p.1)
     ∙ scans false 0 p.3.2 0 (omega arith) (61 ∷ p.1)
-    ∙ ap (seek 44 0 false 0) (sym (append-nil p.1))
+    ∙ ap (has_at_depth 44 0 false 0) (sym (append-nil p.1))
     ∙ scans false 0 p.4 0 (omega arith) []
 
 -- ---- other rows have none, and a loop has a comma
@@ -132,24 +132,24 @@ rise_of word.ReadList e = cc
 rise_of word.ReadUnit e = cc
 rise_of k e = refl
 
-quiet_row : (k : Keyword) → is_quiet k ≡ true → (v : Stmt) (s : Text) → Spells (rule k) v s → seek 61 0 false 0 (spelling k ++ s) ≡ false
-quiet_row k e v s h = ap (seek 61 0 false 0) (sym (append-nil (spelling k ++ s))) ∙ rises (after (spelling k) (rule k)) 0 0 (rise_of k e) v (spelling k ++ s) [] (s, refl, h)
+quiet_row : (k : Keyword) → is_quiet k ≡ true → (v : Stmt) (s : Text) → Spells (rule k) v s → has_at_depth 61 0 false 0 (spelling k ++ s) ≡ false
+quiet_row k e v s h = ap (has_at_depth 61 0 false 0) (sym (append-nil (spelling k ++ s))) ∙ rises (after (spelling k) (rule k)) 0 0 (rise_of k e) v (spelling k ++ s) [] (s, refl, h)
 
-quiet_items : (refs : Bool) (all : List Item) (s : Text) → SpellsItems refs all s → seek 61 0 false 0 s ≡ false
-quiet_items refs all s h = ap (seek 61 0 false 0) (sym (append-nil s)) ∙ items_quiet h []
+quiet_items : (refs : Bool) (all : List Item) (s : Text) → SpellsItems refs all s → has_at_depth 61 0 false 0 s ≡ false
+quiet_items refs all s h = ap (has_at_depth 61 0 false 0) (sym (append-nil s)) ∙ items_quiet h []
 
-loop_comma : (v : Stmt) (s : Text) → Spells (rule word.Do) v s → seek 44 0 false 0 (codes "DO" ++ s) ≡ true
+loop_comma : (v : Stmt) (s : Text) → Spells (rule word.Do) v s → has_at_depth 44 0 false 0 (codes "DO" ++ s) ≡ true
 loop_comma v s h =
     let p = h.2 in
-    ap (seek 44 0 false 0) p.2
+    ap (has_at_depth 44 0 false 0) p.2
     ∙ passes_digits false 0 p.0 p.3.1 0 (omega arith) p.1
     ∙ by p.4
   where
-    by : Spells (past (codes ",") control) h.0.1 h.2.1 → seek 44 0 false 0 h.2.1 ≡ true
-    by (inl x) = ap (seek 44 0 false 0) x.1
+    by : Spells (past (codes ",") control) h.0.1 h.2.1 → has_at_depth 44 0 false 0 h.2.1 ≡ true
+    by (inl x) = ap (has_at_depth 44 0 false 0) x.1
     by (inr x) =
         let c = control_text h.0.1 h.2.1 x in
-        ap (seek 44 0 false 0) c.6
+        ap (has_at_depth 44 0 false 0) c.6
         ∙ passes_name false 0 c.0 c.7 0 (omega arith) (61 ∷ (c.1 ++ 44 ∷ (c.2 ++ c.3)))
         ∙ scans false 0 c.8 0 (omega arith) (44 ∷ (c.2 ++ c.3))
 
@@ -158,17 +158,17 @@ apart true e f = cc
 apart false e f = cc
 
 pub row_unassigned : (k : Keyword) (v : Stmt) (s : Text) → Spells (rule k) v s → (w : Stmt) → Spells assignment w (spelling k ++ s) → ⊥
-row_unassigned word.Do v s h w g = apart (seek 44 0 false 0 (codes "DO" ++ s)) (loop_comma v s h) (no_comma_assigned w (codes "DO" ++ s) g)
-row_unassigned word.Print v s h w g = apart (seek 61 0 false 0 (codes "PRINT*" ++ s)) (assigned w (codes "PRINT*" ++ s) g) (by h.2)
+row_unassigned word.Do v s h w g = apart (has_at_depth 44 0 false 0 (codes "DO" ++ s)) (loop_comma v s h) (no_comma_assigned w (codes "DO" ++ s) g)
+row_unassigned word.Print v s h w g = apart (has_at_depth 61 0 false 0 (codes "PRINT*" ++ s)) (assigned w (codes "PRINT*" ++ s) g) (by h.2)
   where
-    by : Spells printed h.0 s → seek 61 0 false 0 s ≡ false
-    by (inl x) = ap (seek 61 0 false 0) x.1 ∙ quiet_items false h.0 x.0 x.2
-    by (inr x) = ap (seek 61 0 false 0) x.1
-row_unassigned word.Write v s h w g = apart (seek 61 0 false 0 (codes "WRITE(*,*)" ++ s)) (assigned w (codes "WRITE(*,*)" ++ s) g) (by h.2)
+    by : Spells printed h.0 s → has_at_depth 61 0 false 0 s ≡ false
+    by (inl x) = ap (has_at_depth 61 0 false 0) x.1 ∙ quiet_items false h.0 x.0 x.2
+    by (inr x) = ap (has_at_depth 61 0 false 0) x.1
+row_unassigned word.Write v s h w g = apart (has_at_depth 61 0 false 0 (codes "WRITE(*,*)" ++ s)) (assigned w (codes "WRITE(*,*)" ++ s) g) (by h.2)
   where
-    by : Spells written h.0 s → seek 61 0 false 0 s ≡ false
+    by : Spells written h.0 s → has_at_depth 61 0 false 0 s ≡ false
     by (inl x) = quiet_items false h.0 s x
-    by (inr x) = ap (seek 61 0 false 0) x.1
-row_unassigned word.ReadList v s h w g = apart (seek 61 0 false 0 (codes "READ*," ++ s)) (assigned w (codes "READ*," ++ s) g) (quiet_items true h.0 s h.2)
-row_unassigned word.ReadUnit v s h w g = apart (seek 61 0 false 0 (codes "READ(*,*)" ++ s)) (assigned w (codes "READ(*,*)" ++ s) g) (quiet_items true h.0 s h.2)
-row_unassigned k v s h w g = apart (seek 61 0 false 0 (spelling k ++ s)) (assigned w (spelling k ++ s) g) (quiet_row k refl v s h)
+    by (inr x) = ap (has_at_depth 61 0 false 0) x.1
+row_unassigned word.ReadList v s h w g = apart (has_at_depth 61 0 false 0 (codes "READ*," ++ s)) (assigned w (codes "READ*," ++ s) g) (quiet_items true h.0 s h.2)
+row_unassigned word.ReadUnit v s h w g = apart (has_at_depth 61 0 false 0 (codes "READ(*,*)" ++ s)) (assigned w (codes "READ(*,*)" ++ s) g) (quiet_items true h.0 s h.2)
+row_unassigned k v s h w g = apart (has_at_depth 61 0 false 0 (spelling k ++ s)) (assigned w (spelling k ++ s) g) (quiet_row k refl v s h)

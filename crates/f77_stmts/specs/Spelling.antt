@@ -24,7 +24,7 @@ pub data SpellsAction : Stmt → Text → Type 0 where
 pub data SpellsStmt : Stmt → Text → Type 0 where
   -- Assign, Continue, Goto, ComputedGoto, ArithmeticIf, Call, Return, Stop, Print and Read
   simple : {v : Stmt} {s : Text} → SpellsAction v s → SpellsStmt v s
-  -- all others: a first word and the rest of its row
+  -- every statement whose row begins with a first word, those rows of `simple` too: the word and the rest of the row
   row : (k : Keyword) (v : Stmt) (s : Text) → Spells (rule k) v s → SpellsStmt v (spelling k ++ s)
   -- BlockIf: `IF(` expr `)THEN` (section 11.6)
   block_if : {a : Expr} {s : Text} → SpellsExpr s a → SpellsStmt (stmt.BlockIf a) (codes "IF(" ++ (s ++ codes ")THEN"))

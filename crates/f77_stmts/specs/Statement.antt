@@ -5,15 +5,10 @@ use Rattle.f77_ast.specs.declared.expr.Expr.{Expr}
 use Rattle.f77_ast.specs.declared.stmt.Stmt.{Stmt}
 use Rattle.f77_ast.specs.declared.stmt.Stmt.TheVariants as stmt
 use Rattle.f77_exprs.specs.Operators.{Text, begins}
-use Rattle.f77_exprs.specs.Reading.{Outcome, is_empty}
+use Rattle.f77_exprs.specs.Reading.{Outcome, is_empty, all_of}
 use Rattle.f77_stmts.specs.declared.keyword.Keyword.{Keyword}
 use Rattle.f77_forms.specs.Form.{Form, before, an_expr, read, passes}
 use Rattle.f77_stmts.specs.Rows.{spelling, is_action, keyword_at, assignment, three_labels, jumps, rule}
-
--- the tree of an outcome after which no text is left
-abbrev pub whole : {A : Type 0} → Outcome A → Option A
-whole (Some (a, [])) = Some a
-whole _ = None
 
 -- the first that is there
 abbrev pub or_else : {A : Type 0} → Option A → Option A → Option A
@@ -31,14 +26,14 @@ behind_word k i = drop (length (spelling k)) i
 -- what a first word begins, where such words are sought: all, or those that a logical IF may hold
 abbrev pub begun : Bool → ℕ → Text → Option Keyword → Option Stmt
 begun all d i None = None
-begun all d i (Some k) = if all || is_action k then whole (read d (rule k) (behind_word k i)) else None
+begun all d i (Some k) = if all || is_action k then all_of (read d (rule k) (behind_word k i)) else None
 
 unfoldable pub by_word : Bool → ℕ → Text → Option Stmt
 by_word all d i = begun all d i (keyword_at i)
 
 -- the arithmetic IF of what stands behind its condition
 abbrev pub arithmetic : ℕ → Expr → Text → Option Stmt
-arithmetic d a i = option_map (jumps a) (whole (read d three_labels i))
+arithmetic d a i = option_map (jumps a) (all_of (read d three_labels i))
 
 -- what stands behind a condition, where only an arithmetic IF is sought
 abbrev pub jumps_behind : ℕ → Expr → Text → Option Stmt
@@ -55,7 +50,7 @@ is_if i = begins (codes "IF(") i
 
 -- the statement that is read of a text, if a logical IF may hold it
 unfoldable pub action_within : ℕ → Text → Option Stmt
-action_within d i = or_else (whole (read d assignment i)) (if is_if i then if_by (jumps_behind d) (read d condition (drop 3 i)) else by_word false d i)
+action_within d i = or_else (all_of (read d assignment i)) (if is_if i then if_by (jumps_behind d) (read d condition (drop 3 i)) else by_word false d i)
 
 -- whether a text is `THEN`
 abbrev pub is_then : Text → Bool
@@ -67,7 +62,7 @@ any_behind d a i = if passes is_ascii_digit i then arithmetic d a i else (if is_
 
 -- the statement that is read of a text
 unfoldable pub statement_within : ℕ → Text → Option Stmt
-statement_within d i = or_else (whole (read d assignment i)) (if is_if i then if_by (any_behind d) (read d condition (drop 3 i)) else by_word true d i)
+statement_within d i = or_else (all_of (read d assignment i)) (if is_if i then if_by (any_behind d) (read d condition (drop 3 i)) else by_word true d i)
 
 -- the statement that is read of a whole text: no parentheses in it nest deeper than it is long
 abbrev pub statement_of : Text → Option Stmt

@@ -1,5 +1,5 @@
 //! Statements of control: what stands behind the first word of each (ANSI X3.9-1978, sections 11 and 15.6).
-ghost use Rattle.std.specs.Prelude.{◌≡◌, ◌≤◌, length};
+ghost use Rattle.std.specs.Prelude.{◌≡◌, ◌≤◌, length, IsOkUnless};
 ghost use Rattle.f77_exprs.specs.Read.{Reads};
 ghost use Rattle.f77_forms.specs.Form.{read};
 ghost use Rattle.f77_parts.specs.Parts as parts;
@@ -13,7 +13,7 @@ use f77_exprs::unread::Unread;
 use f77_forms::leaves::{a_constant, a_label, expect_word, some_digits};
 use f77_forms::list::list;
 use f77_parts::control::control;
-use f77_parts::names::{ALabel, argument_list};
+use f77_parts::lists::{ALabel, argument_list};
 use f77_parts::sees::{sees_any, sees_apostrophe};
 use std::alloc::Global;
 
@@ -88,6 +88,7 @@ pub fn computed_goto(alloc: Global, reader: &mut Reader<'_>, depth: usize) -> Re
 pub fn goto(reader: &mut Reader<'_>) -> Result<Stmt, Unread>
     ensures value { Reads (read 0 (rule word.Goto) reader.old) result reader.new }
     ensures within { length reader.new ≤ length reader.old }
+    ensures err { IsOkUnless result Unread.Unspelled }
 {
     let label = a_label(reader)?;
     Ok(Stmt::Goto(label))

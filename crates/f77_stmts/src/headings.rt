@@ -1,6 +1,6 @@
 //! Statements that begin a unit, and those that begin with a type: what stands behind the first word of each
 //! (ANSI X3.9-1978, sections 8.4, 14.1, 15.5.1 and 15.6.1).
-ghost use Rattle.std.specs.Prelude.{◌≡◌, ◌≤◌, length};
+ghost use Rattle.std.specs.Prelude.{◌≡◌, ◌≤◌, length, IsOkUnless};
 ghost use Rattle.f77_exprs.specs.Read.{Reads};
 ghost use Rattle.f77_forms.specs.Form.{read};
 ghost use Rattle.f77_stmts.specs.Rows.{rule};
@@ -14,15 +14,16 @@ use f77_exprs::reader::Reader;
 use f77_exprs::unread::Unread;
 use f77_forms::leaves::expect_word;
 use f77_forms::list::list;
-use f77_parts::bounds::{ATextEntity, AnEntity};
-use f77_parts::lengths::len;
-use f77_parts::names::{dummies, dummy_list};
+use f77_parts::declarators::{ATextEntity, AnEntity};
+use f77_parts::lists::{dummies, dummy_list};
+use f77_parts::types::len;
 use std::alloc::Global;
 
 /// Program: `PROGRAM` name (ANSI X3.9-1978, section 14.1)
 pub fn program(reader: &mut Reader<'_>) -> Result<Stmt, Unread>
     ensures value { Reads (read 0 (rule word.Program) reader.old) result reader.new }
     ensures within { length reader.new ≤ length reader.old }
+    ensures err { IsOkUnless result Unread.Unspelled }
 {
     let name = reader.name()?;
     Ok(Stmt::Program(name))

@@ -10,10 +10,10 @@ use f77_exprs::reader::Reader;
 use f77_exprs::unread::Unread;
 use f77_forms::leaves::expect_word;
 use f77_forms::list::list;
-use f77_parts::bounds::AnArray;
 use f77_parts::common::common_groups;
 use f77_parts::data::data_groups;
-use f77_parts::shared::{AGroup, ANamed, AnImplicitRule, save_entries};
+use f77_parts::declarators::AnArray;
+use f77_parts::specifications::{AGroup, ANamed, AnImplicitRule, save_entries};
 use std::alloc::Global;
 
 /// Dimension: `DIMENSION` list(name `(` list(bound) `)`) (ANSI X3.9-1978, section 8.1)

@@ -1,8 +1,8 @@
 //! Statements, as they are read from their texts: as an assignment, or by the first word.
-ghost use Rattle.std.specs.Prelude.{◌≡◌, true, false, drop, IfOk, option_map};
+ghost use Rattle.std.specs.Prelude.{◌≡◌, true, false, drop, IfOk, option_map, IsOkUnless};
 ghost use Rattle.f77_ast.specs.declared.stmt.Stmt.TheVariants as stmt;
 ghost use Rattle.f77_exprs.specs.Read.{Reads};
-ghost use Rattle.f77_exprs.specs.Reading.{Outcome};
+ghost use Rattle.f77_exprs.specs.Reading.{Outcome, all_of};
 ghost use Rattle.f77_forms.specs.Form.{read};
 ghost use Rattle.f77_stmts.specs.Rows as rows;
 ghost use Rattle.f77_stmts.specs.Statement as spec;
@@ -22,8 +22,8 @@ use sqlite_items::Boxed;
 use std::alloc::Global;
 
 /// What was read, if no text is left behind it.
-fn whole<T: Drop>(found: Result<T, Unread>, reader: &Reader<'_>) -> Result<Option<T>, NoMemory>
-    ensures { (o : Outcome T) → Reads o found reader.now → IfOk result (λ v. v ≡ spec.whole o) }
+fn all_of<T: Drop>(found: Result<T, Unread>, reader: &Reader<'_>) -> Result<Option<T>, NoMemory>
+    ensures { (o : Outcome T) → Reads o found reader.now → IfOk result (λ v. v ≡ all_of o) }
 {
     match found {
         Ok(tree) if reader.is_empty() => Ok(Some(tree)),
@@ -45,21 +45,21 @@ fn assignment(alloc: Global, reader: &mut Reader<'_>, depth: usize) -> Result<St
 
 /// The assignment that is read of a text.
 fn assigned(alloc: Global, text: &[u8], depth: usize) -> Result<Option<Stmt>, NoMemory>
-    ensures { IfOk result (λ v. v ≡ spec.whole (read depth rows.assignment text.now)) }
+    ensures { IfOk result (λ v. v ≡ all_of (read depth rows.assignment text.now)) }
 {
     let mut reader = Reader::new(text);
     let found = assignment(alloc, &mut reader, depth);
-    whole(found, &reader)
+    all_of(found, &reader)
 }
 
 /// What is read of a text with a first word.
 fn row(alloc: Global, text: &[u8], depth: usize, keyword: Keyword) -> Result<Option<Stmt>, NoMemory>
-    ensures { IfOk result (λ v. v ≡ spec.whole (read depth (rows.rule keyword) (spec.behind_word keyword text.now))) }
+    ensures { IfOk result (λ v. v ≡ all_of (read depth (rows.rule keyword) (spec.behind_word keyword text.now))) }
 {
     let (_, rest) = text.split_at(keyword.spelling().len().min(text.len()));
     let mut reader = Reader::new(rest);
     let found = behind(alloc, &mut reader, depth, keyword);
-    whole(found, &reader)
+    all_of(found, &reader)
 }
 
 /// The statement of a text by its first word, where all words are sought, or those that a logical IF may hold.
@@ -75,7 +75,8 @@ fn by_word(alloc: Global, text: &[u8], depth: usize, all: bool) -> Result<Option
 
 /// label `,` label `,` label (ANSI X3.9-1978, section 11.4)
 fn three_labels(reader: &mut Reader<'_>) -> Result<(Label, (Label, Label)), Unread>
-    ensures { Reads (read 0 rows.three_labels reader.old) result reader.new }
+    ensures value { Reads (read 0 rows.three_labels reader.old) result reader.new }
+    ensures err { IsOkUnless result Unread.Unspelled }
 {
     let negative = a_label(reader)?;
     expect_word(reader, b",".as_slice())?;
@@ -91,7 +92,7 @@ fn arithmetic(value: Expr, text: &[u8]) -> Result<Option<Stmt>, NoMemory>
 {
     let mut reader = Reader::new(text);
     let found = three_labels(&mut reader);
-    match whole(found, &reader)? {
+    match all_of(found, &reader)? {
         Some((negative, (zero, positive))) => Ok(Some(Stmt::ArithmeticIf {
             value,
             negative,

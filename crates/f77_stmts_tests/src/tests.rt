@@ -1,13 +1,13 @@
 //! What no clause says: statements and refusals worked out by hand.
 
+use f77_ast::data::{DataConstant, DataGroup, DataValue, Repeat};
 use f77_ast::expr::{Expr, Op, Part, Ref};
-use f77_ast::initial::{Constant, DataGroup, DataValue, Repeat};
 use f77_ast::name::Name;
 use f77_ast::program::Card;
 use f77_ast::refusal::{FrontError, Refusal};
 use f77_ast::specification::{
-    Bound, CommonGroup, Declarator, ImplicitRule, Length, LetterRange, SaveEntry, TypeSpec,
-    TypedDeclarator,
+    Bound, CommonGroup, Declarator, ImplicitRule, Length, LetterRange, NamedConstant, SaveEntry,
+    TypeSpec, TypedDeclarator,
 };
 use f77_ast::stmt::{Item, Label, LoopControl, Stmt, StopCode};
 use f77_stmts::stmt::stmt;
@@ -209,9 +209,9 @@ fn show_control(control: &LoopControl, into: &mut Bytes) -> Result<(), NoMemory>
     show(&control.first, into)?;
     into.push(b' ')?;
     show(&control.last, into)?;
-    if let Some(step) = &control.step {
+    if let Some(increment) = &control.increment {
         into.push(b' ')?;
-        show(step, into)?;
+        show(increment, into)?;
     }
     Ok(())
 }
@@ -392,12 +392,12 @@ fn show_rule(rule: &ImplicitRule, into: &mut Bytes) -> Result<(), NoMemory> {
 }
 
 /// Shows a constant of DATA.
-fn show_constant(constant: &Constant, into: &mut Bytes) -> Result<(), NoMemory> {
+fn show_constant(constant: &DataConstant, into: &mut Bytes) -> Result<(), NoMemory> {
     match constant {
-        Constant::Int(value) => print_i64(*value, into),
-        Constant::Truth(value) => into.push(if *value { b'T' } else { b'F' }),
-        Constant::Chars(bytes) => show_chars(bytes, into),
-        Constant::Named(name) => put(into, name.as_slice()),
+        DataConstant::Int(value) => print_i64(*value, into),
+        DataConstant::Truth(value) => into.push(if *value { b'T' } else { b'F' }),
+        DataConstant::Chars(bytes) => show_chars(bytes, into),
+        DataConstant::Named(name) => put(into, name.as_slice()),
     }
 }
 
@@ -446,6 +446,56 @@ fn show_stop(code: &Option<StopCode>, into: &mut Bytes) -> Result<(), NoMemory> 
     }
 }
 
+/// Shows the type of a function's result, if it is said.
+fn show_result(typ: &Option<TypeSpec>, into: &mut Bytes) -> Result<(), NoMemory> {
+    put(into, b"function ".as_slice())?;
+    match typ {
+        Some(typ) => show_type(typ, into)?,
+        None => into.push(b'-')?,
+    }
+    into.push(b' ')
+}
+
+/// Shows the constants of PARAMETER.
+fn show_constants(all: &Items<NamedConstant>, into: &mut Bytes) -> Result<(), NoMemory> {
+    for (at, one) in all.as_slice().iter().enumerate() {
+        if at > 0 {
+            into.push(b',')?;
+        }
+        put(into, one.name.as_slice())?;
+        into.push(b' ')?;
+        show(&one.value, into)?;
+    }
+    Ok(())
+}
+
+/// Shows what SAVE names.
+fn show_saved(entry: &SaveEntry, into: &mut Bytes) -> Result<(), NoMemory> {
+    match entry {
+        SaveEntry::Entity(name) => put(into, name.as_slice()),
+        SaveEntry::Block(name) => {
+            into.push(b'/')?;
+            put(into, name.as_slice())?;
+            into.push(b'/')
+        }
+    }
+}
+
+/// Shows IF or ELSE IF, and its condition.
+fn show_then(word: &[u8], condition: &Expr, into: &mut Bytes) -> Result<(), NoMemory> {
+    put(into, word)?;
+    show(condition, into)?;
+    put(into, b" then".as_slice())
+}
+
+/// Shows a computed GO TO.
+fn show_choice(labels: &[Label], index: &Expr, into: &mut Bytes) -> Result<(), NoMemory> {
+    put(into, b"goto ".as_slice())?;
+    show_labels(labels, into)?;
+    into.push(b' ')?;
+    show(index, into)
+}
+
 /// Shows a statement that declares, or that begins a unit.
 fn show_declaration(one: &Stmt, into: &mut Bytes) -> Result<(), NoMemory> {
     match one {
@@ -459,12 +509,7 @@ fn show_declaration(one: &Stmt, into: &mut Bytes) -> Result<(), NoMemory> {
             show_names(dummies, into)
         }
         Stmt::Function { typ, name, dummies } => {
-            put(into, b"function ".as_slice())?;
-            match typ {
-                Some(typ) => show_type(typ, into)?,
-                None => into.push(b'-')?,
-            }
-            into.push(b' ')?;
+            show_result(typ, into)?;
             put(into, name.as_slice())?;
             show_names(dummies, into)
         }
@@ -497,15 +542,7 @@ fn show_declaration(one: &Stmt, into: &mut Bytes) -> Result<(), NoMemory> {
         }
         Stmt::Parameter(all) => {
             put(into, b"parameter ".as_slice())?;
-            for (at, one) in all.as_slice().iter().enumerate() {
-                if at > 0 {
-                    into.push(b',')?;
-                }
-                put(into, one.name.as_slice())?;
-                into.push(b' ')?;
-                show(&one.value, into)?;
-            }
-            Ok(())
+            show_constants(all, into)
         }
         Stmt::Implicit(rules) => {
             put(into, b"implicit".as_slice())?;
@@ -519,14 +556,7 @@ fn show_declaration(one: &Stmt, into: &mut Bytes) -> Result<(), NoMemory> {
             put(into, b"save".as_slice())?;
             for entry in entries.as_slice() {
                 into.push(b' ')?;
-                match entry {
-                    SaveEntry::Entity(name) => put(into, name.as_slice())?,
-                    SaveEntry::Block(name) => {
-                        into.push(b'/')?;
-                        put(into, name.as_slice())?;
-                        into.push(b'/')?;
-                    }
-                }
+                show_saved(entry, into)?;
             }
             Ok(())
         }
@@ -567,12 +597,7 @@ fn show_stmt(one: &Stmt, into: &mut Bytes) -> Result<(), NoMemory> {
             put(into, b"goto ".as_slice())?;
             print_i64(i64::from(*label), into)
         }
-        Stmt::ComputedGoto { labels, index } => {
-            put(into, b"goto ".as_slice())?;
-            show_labels(labels.as_slice(), into)?;
-            into.push(b' ')?;
-            show(index, into)
-        }
+        Stmt::ComputedGoto { labels, index } => show_choice(labels.as_slice(), index, into),
         Stmt::ArithmeticIf {
             value,
             negative,
@@ -590,16 +615,8 @@ fn show_stmt(one: &Stmt, into: &mut Bytes) -> Result<(), NoMemory> {
             put(into, b": ".as_slice())?;
             show_stmt(inner.get(), into)
         }
-        Stmt::BlockIf(condition) => {
-            put(into, b"if ".as_slice())?;
-            show(condition, into)?;
-            put(into, b" then".as_slice())
-        }
-        Stmt::ElseIf(condition) => {
-            put(into, b"elseif ".as_slice())?;
-            show(condition, into)?;
-            put(into, b" then".as_slice())
-        }
+        Stmt::BlockIf(condition) => show_then(b"if ".as_slice(), condition, into),
+        Stmt::ElseIf(condition) => show_then(b"elseif ".as_slice(), condition, into),
         Stmt::Call { name, args } => {
             put(into, b"call ".as_slice())?;
             put(into, name.as_slice())?;

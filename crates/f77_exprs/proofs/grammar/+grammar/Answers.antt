@@ -1,7 +1,7 @@
 use Rattle.std.proofs.Common.{rules, arith, ◌≡◌, ◌≤◌, ◌+◌, ◌++◌, [], ◌∷◌, length, ap, sym, ◌∙◌, subst, true, false, Some, None}
 use Rattle.std.proofs.lemmas.Grind.{common_steps}
 use Rattle.f77_exprs.specs.Operators.{to_left, grouping}
-use Rattle.f77_exprs.specs.Reading.{sees, prefixed, bound, substring, arguments, with_part, with_low, with_first, opened, reference, primary, one_more, level, rest_of, expr_within}
+use Rattle.f77_exprs.specs.Reading.{sees, prefixed, bound, substring, arguments, with_part, with_low, with_first, opened, reference, primary, one_operator_at_most, level, rest_of, expr_within}
 use Rattle.f77_exprs.specs.Climbing.{climbed}
 use Rattle.f77_exprs.specs.declared.unread.Unread.TheVariants.{Unspelled}
 use Rattle.f77_exprs.proofs.Climbs.{level_missing, level_is, level_fails, climbed_none, climbed_one, no_depth, one_deeper}
@@ -78,15 +78,15 @@ unfolding reference
 reference-returns-clause-value t c = first_of (search rules, grind (arith, common_steps))
 
 pub relation-returns-in_err-right-in-Some-clause-value : goal.relation-returns-in_err-right-in-Some-clause-value
-unfolding one_more
+unfolding one_operator_at_most
 relation-returns-in_err-right-in-Some-clause-value t c = first_of (search rules, grind (arith, common_steps))
 
 pub relation-returns-in-None-clause-value : goal.relation-returns-in-None-clause-value
-unfolding one_more
+unfolding one_operator_at_most
 relation-returns-in-None-clause-value t c = first_of (search rules, grind (arith, common_steps))
 
 pub relation-returns-in_ok-binary-in-Some-clause-value : goal.relation-returns-in_ok-binary-in-Some-clause-value
-unfolding one_more
+unfolding one_operator_at_most
 relation-returns-in_ok-binary-in-Some-clause-value t c = first_of (search rules, grind (arith, common_steps))
 
 pub substring-returns-then-not-eat-clause-value : goal.substring-returns-then-not-eat-clause-value

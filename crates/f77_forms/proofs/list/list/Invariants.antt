@@ -5,7 +5,7 @@ use Rattle.f77_forms.proofs.list.list.Given as goal
 
 abbrev pub invariant-loop-alloc : goal.invariant-loop-alloc
 invariant-loop-alloc g l = record {
-  rest : Turns (list_of (g.P.Part.reading l.depth) l.fn.reader) (λ n. more_of (g.P.Part.reading l.depth) n l.found l.reader) (length l.reader);
+  rest : Turns (list_of (g.P.Production.reading l.depth) l.fn.reader) (λ n. more_of (g.P.Production.reading l.depth) n l.found l.reader) (length l.reader);
   within : length l.reader ≤ length l.fn.reader;
 }
 

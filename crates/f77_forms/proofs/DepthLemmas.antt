@@ -14,11 +14,11 @@ use Rattle.f77_exprs.specs.declared.operators.Infix.TheVariants as between
 use Rattle.f77_exprs.specs.declared.operators.Prefix.{Prefix}
 use Rattle.f77_exprs.specs.declared.operators.Prefix.TheVariants as head_of
 use Rattle.f77_exprs.specs.Operators.{Text, spelling, prefix_spelling}
-use Rattle.f77_exprs.specs.Spelling.{doubled, whole, truth, falsehood, parentheses, lower, joined, SpellsArguments, no_list, empty_list, SpellsAll, SpellsPart, no_part, SpellsBound, left_out, given}
+use Rattle.f77_exprs.specs.Spelling.{doubled, top_level, truth, falsehood, parentheses, lower, joined, SpellsArguments, no_list, empty_list, SpellsAll, SpellsPart, no_part, SpellsBound, left_out, given}
 use Rattle.f77_exprs.specs.Spelling as spelled
 use Rattle.f77_exprs.proofs.Primaries.{all_alphanumeric}
 use Rattle.f77_forms.specs.Form.{Form, nothing, after, before, past, pair, made, either, by_first, list, many, a_part, an_expr, a_ref, a_whole_ref, a_name, a_label, some_digits, a_number, a_constant, a_letter, SpellsList, last, more, SpellsMany, none, one_more, Spells}
-use Rattle.f77_forms.specs.Seek.{seek}
+use Rattle.f77_forms.specs.Depth.{has_at_depth}
 use Rattle.f77_forms.proofs.LeafLemmas.{letters, numerals, of_letter, of_digit}
 
 -- the byte that is sought: `=`, or a comma
@@ -92,14 +92,14 @@ negated false e = refl
 
 -- ---- one byte
 
-pub dull_step : (b at n c : ℕ) (i : Text) → is_dull b c ≡ true → seek b at false n (c ∷ i) ≡ seek b at false n i
+pub dull_step : (b at n c : ℕ) (i : Text) → is_dull b c ≡ true → has_at_depth b at false n (c ∷ i) ≡ has_at_depth b at false n i
 dull_step b at n c i h =
     let p = and_parts (not (c == 39)) _ h in
     let q = and_parts (not (c == 40)) _ p.1 in
     let w = and_parts (not (c == 41)) _ q.1 in
     rw (negated (c == 39) p.0, negated (c == 40) q.0, negated (c == 41) w.0, negated (c == b) w.1) refl
 
-pub dull_skip : (b at n : ℕ) (s r : Text) → list_all (is_dull b) s ≡ true → seek b at false n (s ++ r) ≡ seek b at false n r
+pub dull_skip : (b at n : ℕ) (s r : Text) → list_all (is_dull b) s ≡ true → has_at_depth b at false n (s ++ r) ≡ has_at_depth b at false n r
 dull_skip b at n [] r h = refl
 dull_skip b at n (c ∷ s) r h = let p = and_parts (is_dull b c) (list_all (is_dull b) s) h in dull_step b at n c (s ++ r) p.0 ∙ dull_skip b at n s r p.1
 
@@ -112,53 +112,53 @@ elsewhere at n le = let k : suc n ≢ at = λ e. absurd (omega arith) in grind (
 back : (n : ℕ) → suc n - 1 ≡ n
 back n = omega arith
 
-pub closed : (t : Bool) (at n : ℕ) (r : Text) → at ≤ n → seek (sought t) at false (suc n) (41 ∷ r) ≡ seek (sought t) at false n r
+pub closed : (t : Bool) (at n : ℕ) (r : Text) → at ≤ n → has_at_depth (sought t) at false (suc n) (41 ∷ r) ≡ has_at_depth (sought t) at false n r
 closed t at n r le = rw (deeper at n le, back n) refl
 
-pub comma_inside : (t : Bool) (at n : ℕ) (r : Text) → at ≤ n → seek (sought t) at false (suc n) (44 ∷ r) ≡ seek (sought t) at false (suc n) r
+pub comma_inside : (t : Bool) (at n : ℕ) (r : Text) → at ≤ n → has_at_depth (sought t) at false (suc n) (44 ∷ r) ≡ has_at_depth (sought t) at false (suc n) r
 comma_inside true at n r le = refl
 comma_inside false at n r le = rw (elsewhere at n le) refl
 
-quoted : (b at n : ℕ) (bytes r : Text) → seek b at true n (doubled bytes ++ 39 ∷ r) ≡ seek b at false n r
+quoted : (b at n : ℕ) (bytes r : Text) → has_at_depth b at true n (doubled bytes ++ 39 ∷ r) ≡ has_at_depth b at false n r
 quoted b at n [] r = refl
 quoted b at n (c ∷ bytes) r = by (c == 39) refl (quoted b at n bytes r)
   where
-    by : (t : Bool) → (c == 39) ≡ t → seek b at true n (doubled bytes ++ 39 ∷ r) ≡ seek b at false n r → seek b at true n ((if t then 39 ∷ 39 ∷ doubled bytes else c ∷ doubled bytes) ++ 39 ∷ r) ≡ seek b at false n r
+    by : (t : Bool) → (c == 39) ≡ t → has_at_depth b at true n (doubled bytes ++ 39 ∷ r) ≡ has_at_depth b at false n r → has_at_depth b at true n ((if t then 39 ∷ 39 ∷ doubled bytes else c ∷ doubled bytes) ++ 39 ∷ r) ≡ has_at_depth b at false n r
     by true e rest = rest
-    by false e rest = ap (λ x. seek b at (not x) n (doubled bytes ++ 39 ∷ r)) e ∙ rest
+    by false e rest = ap (λ x. has_at_depth b at (not x) n (doubled bytes ++ 39 ∷ r)) e ∙ rest
 
 -- ---- expressions
 
 module _ (t : Bool) (at : ℕ) where
   abbrev Passes : Text → Type 0
-  Passes s = (n : ℕ) → at ≤ n → (r : Text) → seek (sought t) at false n (s ++ r) ≡ seek (sought t) at false n r
+  Passes s = (n : ℕ) → at ≤ n → (r : Text) → has_at_depth (sought t) at false n (s ++ r) ≡ has_at_depth (sought t) at false n r
 
   -- behind some more parentheses
   abbrev PassesInside : Text → Type 0
-  PassesInside s = (n : ℕ) → at ≤ n → (r : Text) → seek (sought t) at false (suc n) (s ++ r) ≡ seek (sought t) at false (suc n) r
+  PassesInside s = (n : ℕ) → at ≤ n → (r : Text) → has_at_depth (sought t) at false (suc n) (s ++ r) ≡ has_at_depth (sought t) at false (suc n) r
 
   mutual
     pub passes : {k : ℕ} {a : Expr} {s : Text} → spelled.Spells k a s → Passes s
     passes (spelled.number s all fits) n le r = dull_skip (sought t) at n s r (dull_digits t s all.0)
     passes truth n le r = dull_skip (sought t) at n (codes ".TRUE.") r (dull_word t (codes ".TRUE.") refl refl)
     passes falsehood n le r = dull_skip (sought t) at n (codes ".FALSE.") r (dull_word t (codes ".FALSE.") refl refl)
-    passes (spelled.constant bytes some) n le r = ap (seek (sought t) at true n) (append_assoc (doubled bytes) (39 ∷ []) r) ∙ quoted (sought t) at n bytes r
+    passes (spelled.constant bytes some) n le r = ap (has_at_depth (sought t) at true n) (append_assoc (doubled bytes) (39 ∷ []) r) ∙ quoted (sought t) at n bytes r
     passes (spelled.reference name {s = s} {t = u} is h g) n le r =
-        ap (seek (sought t) at false n) (append_assoc name (s ++ u) r ∙ ap (λ x. name ++ x) (append_assoc s u r))
+        ap (has_at_depth (sought t) at false n) (append_assoc name (s ++ u) r ∙ ap (λ x. name ++ x) (append_assoc s u r))
         ∙ dull_skip (sought t) at n name (s ++ (u ++ r)) (dull_names t name (all_alphanumeric name is))
         ∙ passes_arguments h n le (u ++ r)
         ∙ passes_part g n le r
     passes (parentheses {s = s} h) n le r =
-        ap (seek (sought t) at false (suc n)) (append_assoc s (41 ∷ []) r)
+        ap (has_at_depth (sought t) at false (suc n)) (append_assoc s (41 ∷ []) r)
         ∙ passes h (suc n) (omega arith) (41 ∷ r)
         ∙ closed t at n r le
     passes (lower h) n le r = passes h n le r
     passes (spelled.prefixed o {s = s} h) n le r =
-        ap (seek (sought t) at false n) (append_assoc (prefix_spelling o) s r)
+        ap (has_at_depth (sought t) at false n) (append_assoc (prefix_spelling o) s r)
         ∙ dull_skip (sought t) at n (prefix_spelling o) (s ++ r) (dull_prefix t o)
         ∙ passes h n le r
     passes (joined o {s = s} {t = u} h g) n le r =
-        ap (seek (sought t) at false n) (append_assoc s (spelling o ++ u) r ∙ ap (λ x. s ++ x) (append_assoc (spelling o) u r))
+        ap (has_at_depth (sought t) at false n) (append_assoc s (spelling o ++ u) r ∙ ap (λ x. s ++ x) (append_assoc (spelling o) u r))
         ∙ passes h n le (spelling o ++ (u ++ r))
         ∙ dull_skip (sought t) at n (spelling o) (u ++ r) (dull_operator t o)
         ∙ passes g n le r
@@ -167,14 +167,14 @@ module _ (t : Bool) (at : ℕ) where
     passes_arguments no_list n le r = refl
     passes_arguments empty_list n le r = closed t at n r le
     passes_arguments (spelled.list {s = s} h) n le r =
-        ap (seek (sought t) at false (suc n)) (append_assoc s (41 ∷ []) r)
+        ap (has_at_depth (sought t) at false (suc n)) (append_assoc s (41 ∷ []) r)
         ∙ passes_all h n le (41 ∷ r)
         ∙ closed t at n r le
 
     passes_all : {all : List Expr} {s : Text} → SpellsAll all s → PassesInside s
     passes_all (spelled.last h) n le r = passes h (suc n) (omega arith) r
     passes_all (spelled.more {s = s} {t = u} h g) n le r =
-        ap (seek (sought t) at false (suc n)) (append_assoc s (44 ∷ u) r)
+        ap (has_at_depth (sought t) at false (suc n)) (append_assoc s (44 ∷ u) r)
         ∙ passes h (suc n) (omega arith) (44 ∷ (u ++ r))
         ∙ comma_inside t at n (u ++ r) le
         ∙ passes_all g n le r
@@ -182,7 +182,7 @@ module _ (t : Bool) (at : ℕ) where
     passes_part : {part : Option Part} {s : Text} → SpellsPart part s → Passes s
     passes_part no_part n le r = refl
     passes_part (spelled.part {s = s} {t = u} h g) n le r =
-        ap (seek (sought t) at false (suc n)) (append_assoc s (58 ∷ (u ++ 41 ∷ [])) r ∙ ap (λ x. s ++ 58 ∷ x) (append_assoc u (41 ∷ []) r))
+        ap (has_at_depth (sought t) at false (suc n)) (append_assoc s (58 ∷ (u ++ 41 ∷ [])) r ∙ ap (λ x. s ++ 58 ∷ x) (append_assoc u (41 ∷ []) r))
         ∙ passes_bound h (suc n) (omega arith) (58 ∷ (u ++ 41 ∷ r))
         ∙ dull_skip (sought t) at (suc n) (58 ∷ []) (u ++ 41 ∷ r) (dull_word t (58 ∷ []) refl refl)
         ∙ passes_bound g (suc n) (omega arith) (41 ∷ r)
@@ -260,15 +260,15 @@ both_parts (Some k) b m e =
     let p = stays_parts k b m e in
     (ap (λ z. Some z) (sym p.1), p.0 ∙ ap (λ z. Some z) (sym p.1))
 
-rises_word : (n : ℕ) (w : Text) (m : ℕ) (r : Text) → word_rise n w ≡ Some m → seek 61 0 false n (w ++ r) ≡ seek 61 0 false m r
-rises_word n [] m r e = let k : n ≡ m = cc in ap (λ z. seek 61 0 false z r) k
+rises_word : (n : ℕ) (w : Text) (m : ℕ) (r : Text) → word_rise n w ≡ Some m → has_at_depth 61 0 false n (w ++ r) ≡ has_at_depth 61 0 false m r
+rises_word n [] m r e = let k : n ≡ m = cc in ap (λ z. has_at_depth 61 0 false z r) k
 rises_word n (c ∷ w) m r e = by (c == 39) (c == 40) (c == 41) (nat_le n 0) ((c == 61) && (n == 0)) e (rises_word (suc n) w m r) (rises_word (n - 1) w m r) (rises_word n w m r)
   where
     by : (t u x y z : Bool) → (if t then None else (if u then word_rise (suc n) w else (if x then (if y then None else word_rise (n - 1) w) else (if z then None else word_rise n w)))) ≡ Some m
-        → (word_rise (suc n) w ≡ Some m → seek 61 0 false (suc n) (w ++ r) ≡ seek 61 0 false m r)
-        → (word_rise (n - 1) w ≡ Some m → seek 61 0 false (n - 1) (w ++ r) ≡ seek 61 0 false m r)
-        → (word_rise n w ≡ Some m → seek 61 0 false n (w ++ r) ≡ seek 61 0 false m r)
-        → (if t then seek 61 0 true n (w ++ r) else (if u then seek 61 0 false (suc n) (w ++ r) else (if x then (if y then false else seek 61 0 false (n - 1) (w ++ r)) else (if z then true else seek 61 0 false n (w ++ r))))) ≡ seek 61 0 false m r
+        → (word_rise (suc n) w ≡ Some m → has_at_depth 61 0 false (suc n) (w ++ r) ≡ has_at_depth 61 0 false m r)
+        → (word_rise (n - 1) w ≡ Some m → has_at_depth 61 0 false (n - 1) (w ++ r) ≡ has_at_depth 61 0 false m r)
+        → (word_rise n w ≡ Some m → has_at_depth 61 0 false n (w ++ r) ≡ has_at_depth 61 0 false m r)
+        → (if t then has_at_depth 61 0 true n (w ++ r) else (if u then has_at_depth 61 0 false (suc n) (w ++ r) else (if x then (if y then false else has_at_depth 61 0 false (n - 1) (w ++ r)) else (if z then true else has_at_depth 61 0 false n (w ++ r))))) ≡ has_at_depth 61 0 false m r
     by true u x y z e f g h = cc
     by false true x y z e f g h = f e
     by false false true true z e f g h = cc
@@ -276,28 +276,28 @@ rises_word n (c ∷ w) m r e = by (c == 39) (c == 40) (c == 41) (nat_le n 0) ((c
     by false false false y true e f g h = cc
     by false false false y false e f g h = h e
 
-unmoved : (n m : ℕ) → Some n ≡ Some m → (r : Text) → seek 61 0 false n r ≡ seek 61 0 false m r
-unmoved n m e r = let k : n ≡ m = cc in ap (λ z. seek 61 0 false z r) k
+unmoved : (n m : ℕ) → Some n ≡ Some m → (r : Text) → has_at_depth 61 0 false n r ≡ has_at_depth 61 0 false m r
+unmoved n m e r = let k : n ≡ m = cc in ap (λ z. has_at_depth 61 0 false z r) k
 
-comma_passed : (n : ℕ) (r : Text) → seek 61 0 false n (44 ∷ r) ≡ seek 61 0 false n r
+comma_passed : (n : ℕ) (r : Text) → has_at_depth 61 0 false n (44 ∷ r) ≡ has_at_depth 61 0 false n r
 comma_passed n r = refl
 
-pub rises : {A : Type 0} (f : Form A) (n m : ℕ) → rise n f ≡ Some m → (v : A) (s r : Text) → Spells f v s → seek 61 0 false n (s ++ r) ≡ seek 61 0 false m r
-rises (nothing a) n m e v s r h = ap (λ x. seek 61 0 false n (x ++ r)) h.1 ∙ unmoved n m e r
+pub rises : {A : Type 0} (f : Form A) (n m : ℕ) → rise n f ≡ Some m → (v : A) (s r : Text) → Spells f v s → has_at_depth 61 0 false n (s ++ r) ≡ has_at_depth 61 0 false m r
+rises (nothing a) n m e v s r h = ap (λ x. has_at_depth 61 0 false n (x ++ r)) h.1 ∙ unmoved n m e r
 rises (after w f) n m e v s r h =
     let p = next_parts (word_rise n w) (λ m. rise m f) m e in
-    ap (seek 61 0 false n) (ap (λ x. x ++ r) h.1 ∙ append_assoc w h.0 r)
+    ap (has_at_depth 61 0 false n) (ap (λ x. x ++ r) h.1 ∙ append_assoc w h.0 r)
     ∙ rises_word n w p.0 (h.0 ++ r) p.1
     ∙ rises f p.0 m p.2 v h.0 r h.2
 rises (before f w) n m e v s r h =
     let p = next_parts (rise n f) (λ m. word_rise m w) m e in
-    ap (seek 61 0 false n) (ap (λ x. x ++ r) h.1 ∙ append_assoc h.0 w r)
+    ap (has_at_depth 61 0 false n) (ap (λ x. x ++ r) h.1 ∙ append_assoc h.0 w r)
     ∙ rises f n p.0 p.1 v h.0 (w ++ r) h.2
     ∙ rises_word p.0 w m r p.2
 rises (past w f) n m e v s r (inl h) =
     let p = next_parts (stays n (word_rise n w)) (λ m. rise m f) m e in
     let q = stays_parts n (word_rise n w) p.0 p.1 in
-    ap (seek 61 0 false n) (ap (λ x. x ++ r) h.1 ∙ append_assoc w h.0 r)
+    ap (has_at_depth 61 0 false n) (ap (λ x. x ++ r) h.1 ∙ append_assoc w h.0 r)
     ∙ rises_word n w n (h.0 ++ r) q.0
     ∙ rises f n m (ap (λ k. rise k f) (sym q.1) ∙ p.2) v h.0 r h.2
 rises (past w f) n m e v s r (inr h) =
@@ -306,14 +306,14 @@ rises (past w f) n m e v s r (inr h) =
     rises f n m (ap (λ k. rise k f) (sym q.1) ∙ p.2) v s r h
 rises (pair f g) n m e v s r h =
     let p = next_parts (rise n f) (λ m. rise m g) m e in
-    ap (seek 61 0 false n) (ap (λ x. x ++ r) h.2 ∙ append_assoc h.0 h.1 r)
+    ap (has_at_depth 61 0 false n) (ap (λ x. x ++ r) h.2 ∙ append_assoc h.0 h.1 r)
     ∙ rises f n p.0 p.1 v.0 h.0 (h.1 ++ r) h.3
     ∙ rises g p.0 m p.2 v.1 h.1 r h.4
 rises (made q f) n m e v s r h = rises f n m e h.0 s r h.2
 rises (either w f g) n m e v s r (inl h) =
     let q = both_parts (next_of (word_rise n w) (λ m. rise m f)) (rise n g) m e in
     let p = next_parts (word_rise n w) (λ m. rise m f) m q.0 in
-    ap (seek 61 0 false n) (ap (λ x. x ++ r) h.1 ∙ append_assoc w h.0 r)
+    ap (has_at_depth 61 0 false n) (ap (λ x. x ++ r) h.1 ∙ append_assoc w h.0 r)
     ∙ rises_word n w p.0 (h.0 ++ r) p.1
     ∙ rises f p.0 m p.2 v h.0 r h.2
 rises (either w f g) n m e v s r (inr h) = rises g n m (both_parts (next_of (word_rise n w) (λ m. rise m f)) (rise n g) m e).1 v s r h
@@ -321,18 +321,18 @@ rises (by_first p f g) n m e v s r (inl h) = rises f n m (both_parts (rise n f) 
 rises (by_first p f g) n m e v s r (inr h) = rises g n m (both_parts (rise n f) (rise n g) m e).1 v s r h
 rises (list {A = X} f) n m e v s r h =
     let q = stays_parts n (rise n f) m e in
-    by h (λ a t u x. rises f n n q.0 a t u x) ∙ ap (λ k. seek 61 0 false k r) (sym q.1)
+    by h (λ a t u x. rises f n n q.0 a t u x) ∙ ap (λ k. has_at_depth 61 0 false k r) (sym q.1)
   where
-    by : {all : List X} {u : Text} → SpellsList (Spells f) all u → ((a : X) (t w : Text) → Spells f a t → seek 61 0 false n (t ++ w) ≡ seek 61 0 false n w) → seek 61 0 false n (u ++ r) ≡ seek 61 0 false n r
+    by : {all : List X} {u : Text} → SpellsList (Spells f) all u → ((a : X) (t w : Text) → Spells f a t → has_at_depth 61 0 false n (t ++ w) ≡ has_at_depth 61 0 false n w) → has_at_depth 61 0 false n (u ++ r) ≡ has_at_depth 61 0 false n r
     by (last {a = a} {s = t} x) rule = rule a t r x
-    by (more {a = a} {s = t} {t = w} x y) rule = ap (seek 61 0 false n) (append_assoc t (44 ∷ w) r) ∙ rule a t (44 ∷ (w ++ r)) x ∙ comma_passed n (w ++ r) ∙ by y rule
+    by (more {a = a} {s = t} {t = w} x y) rule = ap (has_at_depth 61 0 false n) (append_assoc t (44 ∷ w) r) ∙ rule a t (44 ∷ (w ++ r)) x ∙ comma_passed n (w ++ r) ∙ by y rule
 rises (many {A = X} f) n m e v s r h =
     let q = stays_parts n (rise n f) m e in
-    by h (λ a t u x. rises f n n q.0 a t u x) ∙ ap (λ k. seek 61 0 false k r) (sym q.1)
+    by h (λ a t u x. rises f n n q.0 a t u x) ∙ ap (λ k. has_at_depth 61 0 false k r) (sym q.1)
   where
-    by : {all : List X} {u : Text} → SpellsMany (Spells f) all u → ((a : X) (t w : Text) → Spells f a t → seek 61 0 false n (t ++ w) ≡ seek 61 0 false n w) → seek 61 0 false n (u ++ r) ≡ seek 61 0 false n r
+    by : {all : List X} {u : Text} → SpellsMany (Spells f) all u → ((a : X) (t w : Text) → Spells f a t → has_at_depth 61 0 false n (t ++ w) ≡ has_at_depth 61 0 false n w) → has_at_depth 61 0 false n (u ++ r) ≡ has_at_depth 61 0 false n r
     by none rule = refl
-    by (one_more {a = a} {s = t} {t = w} x y) rule = ap (seek 61 0 false n) (append_assoc t w r) ∙ rule a t (w ++ r) x ∙ by y rule
+    by (one_more {a = a} {s = t} {t = w} x y) rule = ap (has_at_depth 61 0 false n) (append_assoc t w r) ∙ rule a t (w ++ r) x ∙ by y rule
 rises (a_part R p) n m e v s r h = cc
 rises an_expr n m e v s r h = passes true 0 h n (omega arith) r ∙ unmoved n m e r
 rises a_ref n m e v s r h = passes true 0 h n (omega arith) r ∙ unmoved n m e r
@@ -342,4 +342,4 @@ rises a_label n m e v s r h = passes_digits true 0 s h.1 n (omega arith) r ∙ u
 rises some_digits n m e v s r h = passes_digits true 0 s h.1 n (omega arith) r ∙ unmoved n m e r
 rises a_number n m e v s r h = passes true 0 h n (omega arith) r ∙ unmoved n m e r
 rises a_constant n m e v s r h = passes true 0 h n (omega arith) r ∙ unmoved n m e r
-rises a_letter n m e v s r h = ap (λ x. seek 61 0 false n (x ++ r)) h.0 ∙ dull_skip 61 0 n (v ∷ []) r (and_from (is_dull 61 v) true (of_letter (is_dull 61) v (dull_letters true) h.1) refl) ∙ unmoved n m e r
+rises a_letter n m e v s r h = ap (λ x. has_at_depth 61 0 false n (x ++ r)) h.0 ∙ dull_skip 61 0 n (v ∷ []) r (and_from (is_dull 61 v) true (of_letter (is_dull 61) v (dull_letters true) h.1) refl) ∙ unmoved n m e r

@@ -1,11 +1,11 @@
 //! The members of EQUIVALENCE, PARAMETER, IMPLICIT and SAVE (ANSI X3.9-1978, sections 8.2, 8.5, 8.6 and 8.9).
-ghost use Rattle.std.specs.Prelude.{◌≡◌, ◌≤◌, ℕ, length};
+ghost use Rattle.std.specs.Prelude.{◌≡◌, ◌≤◌, ℕ, length, IsOkUnless};
 ghost use Rattle.f77_exprs.specs.Read.{Reads};
 ghost use Rattle.f77_forms.specs.Form.{read, a_whole_ref};
 ghost use Rattle.f77_parts.specs.Parts as parts;
 
-use crate::lengths::type_spec;
 use crate::sees::sees_any;
+use crate::types::type_spec;
 use f77_ast::expr::Ref;
 use f77_ast::specification::{
     EquivalenceGroup, ImplicitRule, LetterRange, NamedConstant, SaveEntry,
@@ -14,14 +14,14 @@ use f77_exprs::grammar::expr_within;
 use f77_exprs::reader::Reader;
 use f77_exprs::unread::Unread;
 use f77_forms::leaves::{a_letter, a_whole_ref, expect_word};
-use f77_forms::list::{Part, list, with_first};
+use f77_forms::list::{Production, list, with_first};
 use sqlite_items::Items;
 use std::alloc::Global;
 
 /// ref without a substring
 pub struct AWholeRef;
 
-impl Part for AWholeRef {
+impl Production for AWholeRef {
     type Tree = Ref;
 
     ghost reading = { λ depth. read depth a_whole_ref };
@@ -56,7 +56,7 @@ fn group(alloc: Global, reader: &mut Reader<'_>, depth: usize) -> Result<Equival
 /// `(` ref `,` list(ref) `)`
 pub struct AGroup;
 
-impl Part for AGroup {
+impl Production for AGroup {
     type Tree = EquivalenceGroup;
 
     ghost reading = { λ depth. read depth parts.group };
@@ -84,7 +84,7 @@ fn named(alloc: Global, reader: &mut Reader<'_>, depth: usize) -> Result<NamedCo
 /// name `=` expr
 pub struct ANamed;
 
-impl Part for ANamed {
+impl Production for ANamed {
     type Tree = NamedConstant;
 
     ghost reading = { λ depth. read depth parts.named };
@@ -98,6 +98,7 @@ impl Part for ANamed {
 fn last_letter(reader: &mut Reader<'_>) -> Result<Option<u8>, Unread>
     ensures value { Reads (read 0 parts.last_letter reader.old) result reader.new }
     ensures within { length reader.new ≤ length reader.old }
+    ensures err { IsOkUnless result Unread.Unspelled }
 {
     if !reader.eat_word(b"-".as_slice()) {
         return Ok(None);
@@ -110,6 +111,7 @@ fn last_letter(reader: &mut Reader<'_>) -> Result<Option<u8>, Unread>
 fn range(reader: &mut Reader<'_>) -> Result<LetterRange, Unread>
     ensures value { Reads (read 0 parts.range reader.old) result reader.new }
     ensures within { length reader.new ≤ length reader.old }
+    ensures err { IsOkUnless result Unread.Unspelled }
 {
     let first = a_letter(reader)?;
     let last = last_letter(reader)?;
@@ -119,7 +121,7 @@ fn range(reader: &mut Reader<'_>) -> Result<LetterRange, Unread>
 /// letter [`-` letter]
 pub struct ARange;
 
-impl Part for ARange {
+impl Production for ARange {
     type Tree = LetterRange;
 
     ghost reading = { λ depth. read depth parts.range };
@@ -148,7 +150,7 @@ fn implicit_rule(
 /// typ `(` list(letter [`-` letter]) `)`
 pub struct AnImplicitRule;
 
-impl Part for AnImplicitRule {
+impl Production for AnImplicitRule {
     type Tree = ImplicitRule;
 
     ghost reading = { λ depth. read depth parts.implicit_rule };
@@ -162,6 +164,7 @@ impl Part for AnImplicitRule {
 fn save_entry(reader: &mut Reader<'_>) -> Result<SaveEntry, Unread>
     ensures value { Reads (read 0 parts.save_entry reader.old) result reader.new }
     ensures within { length reader.new ≤ length reader.old }
+    ensures err { IsOkUnless result Unread.Unspelled }
 {
     if reader.eat_word(b"/".as_slice()) {
         let block = reader.name()?;
@@ -175,7 +178,7 @@ fn save_entry(reader: &mut Reader<'_>) -> Result<SaveEntry, Unread>
 /// name or `/` name `/`
 pub struct ASaveEntry;
 
-impl Part for ASaveEntry {
+impl Production for ASaveEntry {
     type Tree = SaveEntry;
 
     ghost reading = { λ depth. read depth parts.save_entry };

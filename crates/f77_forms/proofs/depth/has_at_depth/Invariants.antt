@@ -1,10 +1,10 @@
 use Rattle.std.proofs.Common.{◌≡◌, ◌≤◌, ◌+◌, false, length}
-use Rattle.f77_forms.specs.Seek.{seek}
-use Rattle.f77_forms.proofs.seek.seek.Given as goal
+use Rattle.f77_forms.specs.Depth.{has_at_depth}
+use Rattle.f77_forms.proofs.depth.has_at_depth.Given as goal
 
 abbrev pub invariant-loop-next : goal.invariant-loop-next
 invariant-loop-next l = record {
-  rest : seek l.byte l.at false 0 l.text ≡ seek l.byte l.at l.inside l.depth l.rest;
+  rest : has_at_depth l.byte l.at false 0 l.text ≡ has_at_depth l.byte l.at l.inside l.depth l.rest;
   within : l.depth + length l.rest ≤ length l.text;
 }
 

@@ -4,14 +4,14 @@ ghost use Rattle.f77_exprs.specs.Read.{Reads};
 ghost use Rattle.f77_forms.specs.Form.{read};
 ghost use Rattle.f77_parts.specs.Parts as parts;
 
-use crate::lengths::len_option;
+use crate::types::len_option;
 use f77_ast::expr::Expr;
 use f77_ast::specification::{Bound, Declarator, TypedDeclarator};
 use f77_exprs::grammar::expr_within;
 use f77_exprs::reader::Reader;
 use f77_exprs::unread::Unread;
 use f77_forms::leaves::expect_word;
-use f77_forms::list::{Part, list};
+use f77_forms::list::{Production, list};
 use sqlite_items::Items;
 use std::alloc::Global;
 
@@ -78,7 +78,7 @@ fn bound(alloc: Global, reader: &mut Reader<'_>, depth: usize) -> Result<Bound, 
 /// bound
 pub struct ABound;
 
-impl Part for ABound {
+impl Production for ABound {
     type Tree = Bound;
 
     ghost reading = { λ depth. read depth parts.bound };
@@ -160,7 +160,7 @@ fn text_entity(
 /// name `(` list(bound) `)`
 pub struct AnArray;
 
-impl Part for AnArray {
+impl Production for AnArray {
     type Tree = Declarator;
 
     ghost reading = { λ depth. read depth parts.array };
@@ -173,7 +173,7 @@ impl Part for AnArray {
 /// decl, of a type without lengths
 pub struct AnEntity;
 
-impl Part for AnEntity {
+impl Production for AnEntity {
     type Tree = TypedDeclarator;
 
     ghost reading = { λ depth. read depth parts.entity };
@@ -190,7 +190,7 @@ impl Part for AnEntity {
 /// decl [`*` len]
 pub struct ATextEntity;
 
-impl Part for ATextEntity {
+impl Production for ATextEntity {
     type Tree = TypedDeclarator;
 
     ghost reading = { λ depth. read depth parts.text_entity };

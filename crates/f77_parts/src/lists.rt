@@ -12,14 +12,14 @@ use f77_exprs::grammar::expr_within;
 use f77_exprs::reader::Reader;
 use f77_exprs::unread::Unread;
 use f77_forms::leaves::{a_label, expect_word};
-use f77_forms::list::{Part, list};
+use f77_forms::list::{Production, list};
 use sqlite_items::Items;
 use std::alloc::Global;
 
 /// name
 pub struct AName;
 
-impl Part for AName {
+impl Production for AName {
     type Tree = Name;
 
     ghost reading = { λ depth. read depth form.a_name };
@@ -32,7 +32,7 @@ impl Part for AName {
 /// label
 pub struct ALabel;
 
-impl Part for ALabel {
+impl Production for ALabel {
     type Tree = Label;
 
     ghost reading = { λ depth. read depth form.a_label };
@@ -45,7 +45,7 @@ impl Part for ALabel {
 /// expr
 pub struct AnExpr;
 
-impl Part for AnExpr {
+impl Production for AnExpr {
     type Tree = Expr;
 
     ghost reading = { λ depth. read depth form.an_expr };
