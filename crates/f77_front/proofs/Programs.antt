@@ -10,8 +10,9 @@ use Rattle.f77_ast.specs.declared.stmt.Stmt.{Stmt}
 use Rattle.f77_ast.specs.declared.stmt.Stmt as stmt
 use Rattle.f77_front.proofs.Files.{program_made, units_made, accepted_of}
 use Rattle.f77_front.specs.Front.{program_with, program_of, units_of, front_of}
-use Rattle.f77_meaning.specs.Loops.{loops_of, statements_of}
-use Rattle.f77_meaning.specs.Sound.{IsSound, statement_resolves}
+use Rattle.f77_meaning.specs.Loops.{loops_of, statement_count}
+use Rattle.f77_meaning.specs.Resolves.{statement_resolves}
+use Rattle.f77_meaning.specs.Sound.{IsSound}
 use Rattle.f77_meaning.specs.Storage.{IsLaidOut}
 use Rattle.f77_shape.proofs.Accepted.{ranges_nest, files_are_small}
 use Rattle.f77_shape.proofs.AcceptedUnits.{units_end, one_main}
@@ -91,7 +92,7 @@ program_sound statements units layout shape subset =
 -- the units of a file are few, and so are their statements
 pub record AreFew (units : List ProgramUnit) : Type 0 where
   pub few_units : length units < 2 ^ 32
-  pub few_statements : statements_of units + 1 < 2 ^ 32
+  pub few_statements : statement_count units + 1 < 2 ^ 32
 
 pub are_few : (statements : List Listed) (units : List ProgramUnit) → units_of statements ≡ Ok units → AreFew units
 are_few statements units e =

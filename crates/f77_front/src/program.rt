@@ -2,7 +2,7 @@
 ghost use Rattle.std.specs.Prelude.{◌≡◌, ◌+◌, ◌<◌, ◌^◌, length, Ok, Err, IfOk, IsErrOf};
 ghost use Rattle.f77_ast.specs.declared.refusal.Refusal.{Refusal};
 ghost use Rattle.f77_front.specs.Front.{unless_refused, units_of, program_of};
-ghost use Rattle.f77_meaning.specs.Loops.{statements_of};
+ghost use Rattle.f77_meaning.specs.Loops.{statement_count};
 
 use f77_ast::program::{Listing, Program, Units};
 use f77_ast::refusal::{FrontError, Refusal};
@@ -36,7 +36,7 @@ pub fn units_of(alloc: Global, statements: Listing) -> Result<Units, FrontError>
 /// The program of some units with its loops and its layout, or the first refusal of what isn't built so far.
 pub fn program_of(alloc: Global, units: Units) -> Result<Program, FrontError>
     requires few_units { length units < 2 ^ 32 }
-    requires few_statements { statements_of units + 1 < 2 ^ 32 }
+    requires few_statements { statement_count units + 1 < 2 ^ 32 }
     ensures accepted { IfOk result (λ program. program_of units ≡ Ok program) }
     ensures refused { (refusal : Refusal) → IsErrOf result (FrontError.Refused refusal) → program_of units ≡ Err refusal }
 {

@@ -15,8 +15,8 @@ use Rattle.f77_ast.specs.declared.expr.Expr.TheOpen.{Expr-F, Part-F, Ref-F}
 use Rattle.f77_ast.specs.declared.expr.Expr.TheOpen as layer
 use Rattle.f77_ast.specs.declared.expr.Part.{Part, out-Part}
 use Rattle.f77_ast.specs.declared.expr.Ref.{Ref}
-use Rattle.f77_ast.specs.declared.initial.DataGroup.{DataGroup}
-use Rattle.f77_ast.specs.declared.initial.DataValue.{DataValue}
+use Rattle.f77_ast.specs.declared.data.DataGroup.{DataGroup}
+use Rattle.f77_ast.specs.declared.data.DataValue.{DataValue}
 use Rattle.f77_ast.specs.declared.specification.Bound.{Bound}
 use Rattle.f77_ast.specs.declared.specification.CommonGroup.{CommonGroup}
 use Rattle.f77_ast.specs.declared.specification.Declarator.{Declarator}
@@ -94,7 +94,7 @@ part_need (Some part) = option_need expr_need (out-Part part).low + option_need 
 
 -- the need of the control of a DO or implied DO: its variable is one
 abbrev pub control_need : LoopControl → ℕ
-control_need control = 1 + expr_need control.first + expr_need control.last + option_need expr_need control.step
+control_need control = 1 + expr_need control.first + expr_need control.last + option_need expr_need control.increment
 
 -- one level of an item
 abbrev pub item_step : Item-F ℕ → ℕ

@@ -6,14 +6,14 @@ ghost use Rattle.f77_operands.specs.Needs.{one_if};
 /// The greatest number of operands of a file.
 pub const MOST_OPERANDS: u32 = 32_768;
 
-/// Two numbers together.
+/// The sum of two numbers, or 32,769 where it is more.
 pub fn plus(one: u32, other: u32) -> u32
     ensures { result ≡ capped (one + other) }
 {
     one.saturating_add(other).min(MOST_OPERANDS + 1)
 }
 
-/// The number of items of a list.
+/// The number of items of a list, or 32,769 where it is more.
 pub fn count<T>(list: &[T]) -> u32
     ensures { result ≡ capped (length list.now) }
 {
@@ -22,7 +22,7 @@ pub fn count<T>(list: &[T]) -> u32
         .min(MOST_OPERANDS + 1)
 }
 
-/// One for what may be there.
+/// 1 where the part is there, else 0.
 pub fn one_if<T>(part: &Option<T>) -> u32
     ensures { result ≡ one_if part.now }
 {

@@ -5,8 +5,8 @@ ghost use Rattle.f77_operands.specs.Needs.{expr_need, ref_need, option_need, arg
 
 use crate::capped::{count, one_if, plus};
 use crate::counted::{Counted, needs};
+use f77_ast::data::{DataGroup, DataValue};
 use f77_ast::expr::{Expr, Part, Ref};
-use f77_ast::initial::{DataGroup, DataValue};
 use f77_ast::specification::{
     Bound, CommonGroup, Declarator, EquivalenceGroup, ImplicitRule, Length, NamedConstant,
     TypeSpec, TypedDeclarator,
@@ -109,7 +109,7 @@ impl Counted for LoopControl {
     /// The need of a control of a DO or implied DO (sections 11.10 and 12.8.2.3).
     fn need(&self) -> u32 {
         let values = plus(plus(1, self.first.need()), self.last.need());
-        plus(values, self.step.need())
+        plus(values, self.increment.need())
     }
 }
 
@@ -197,7 +197,7 @@ impl Counted for TypedDeclarator {
 
     ghost need_of = { entity_need };
 
-    /// The need of a entity of a type statement (section 8.4.2).
+    /// The need of an entity of a type statement (section 8.4.2).
     fn need(&self) -> u32 {
         plus(self.declarator.need(), self.length.need())
     }

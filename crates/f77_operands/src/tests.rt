@@ -3,8 +3,8 @@
 use crate::limit::too_many_operands;
 use crate::needs::operand_need;
 use f77_ast::code::Code;
+use f77_ast::data::{DataConstant, DataGroup, DataValue, Repeat};
 use f77_ast::expr::{Expr, Op, Part, Ref};
-use f77_ast::initial::{Constant, DataGroup, DataValue, Repeat};
 use f77_ast::name::Name;
 use f77_ast::program::{Card, Listed, Listing, Unit, Units};
 use f77_ast::refusal::Refusal;
@@ -105,12 +105,12 @@ impl<A: Abort> Trees<'_, A> {
     }
 
     /// A control from 1 on.
-    fn control(&self, variable: &[u8], last: Expr, step: Option<Expr>) -> LoopControl {
+    fn control(&self, variable: &[u8], last: Expr, increment: Option<Expr>) -> LoopControl {
         LoopControl {
             variable: self.name(variable),
             first: Expr::Int(1),
             last,
-            step,
+            increment,
         }
     }
 
@@ -470,7 +470,7 @@ fn operands_of_data(rt: HostRuntime) {
     };
     let zeros = DataValue {
         repeat: Some(Repeat::Digits(3)),
-        constant: Constant::Int(0),
+        constant: DataConstant::Int(0),
     };
     let group = DataGroup {
         targets: to.one(to.plain(b"A")),
@@ -479,12 +479,12 @@ fn operands_of_data(rt: HostRuntime) {
     to.check("DATA A/3*0/", 3, Stmt::Init(to.one(group)));
     let minus = DataValue {
         repeat: None,
-        constant: Constant::Int(-1),
+        constant: DataConstant::Int(-1),
     };
     let repeat = Some(Repeat::Named(to.name(b"N")));
     let texts = DataValue {
         repeat,
-        constant: Constant::Chars(to.characters()),
+        constant: DataConstant::Chars(to.characters()),
     };
     let targets = to.two(to.plain(b"A"), to.with(b"B", to.one(Expr::Int(1))));
     let first = DataGroup {
@@ -493,11 +493,11 @@ fn operands_of_data(rt: HostRuntime) {
     };
     let truth = DataValue {
         repeat: None,
-        constant: Constant::Truth(true),
+        constant: DataConstant::Truth(true),
     };
     let named = DataValue {
         repeat: None,
-        constant: Constant::Named(to.name(b"M")),
+        constant: DataConstant::Named(to.name(b"M")),
     };
     let targets = to.two(to.plain(b"L"), to.plain(b"K"));
     let second = DataGroup {

@@ -9,10 +9,10 @@ use Rattle.f77_ast.specs.declared.program.Listed.{Listed}
 use Rattle.f77_ast.specs.declared.program.Unit.{Unit as ProgramUnit}
 use Rattle.f77_ast.specs.declared.refusal.Refusal.{Refusal}
 use Rattle.f77_cards.specs.Cards.{when, first_of}
-use Rattle.f77_meaning.specs.Loops.{terminal_of, has_label, distance_to, statements_of}
+use Rattle.f77_meaning.specs.Loops.{terminal_label, has_label, distance_to, statement_count}
 use Rattle.f77_meaning.specs.Ranges.{IsDo, terminal_at, HasRange, RangesNest}
 use Rattle.f77_shape.specs.declared.stretches.Stretch.{Stretch}
-use Rattle.f77_shape.specs.Blocks.{breaks_if, is_unended}
+use Rattle.f77_shape.specs.Blocks.{is_misplaced_part, is_unended}
 use Rattle.f77_shape.specs.Breaks.{at, broken_by}
 use Rattle.f77_shape.specs.Jumps.{jumps_in}
 use Rattle.f77_shape.specs.Labels.{target_from, target_in, misses_label, doubles_label}
@@ -177,7 +177,7 @@ no_range test unit place (y ∷ listing) e (suc k) x s h r =
     let n : suc place + k ≡ place + suc k = omega arith in
     no_range test unit (suc place) listing (any_right test (option_to_list (range_at unit place y)) (ranges_from unit (suc place) listing) e) k x s h (ap (λ m. range_at unit m x) n ∙ r)
 
-range_here : (unit : List Listed) (place label target : ℕ) (x : Listed) → terminal_of x.stmt ≡ Some label → target_in label unit ≡ Some target → place < target → range_at unit place x ≡ Some (record { opens = place; last = target })
+range_here : (unit : List Listed) (place label target : ℕ) (x : Listed) → terminal_label x.stmt ≡ Some label → target_in label unit ≡ Some target → place < target → range_at unit place x ≡ Some (record { opens = place; last = target })
 range_here unit place label target x names found behind =
     let test : nat_lt place target ≡ true = grind (arith, nat_tests) in
     ap (λ o. range_to place (option_and_then (λ l. target_in l unit) o)) names
@@ -206,7 +206,7 @@ unit_nests unit none =
     let a = broken_by 50 (misses_label unit) 0 unit in
     let b = broken_by 51 (doubles_label unit) 0 unit in
     let d = broken_by 52 (breaks_range unit) 0 unit in
-    let e = broken_by 53 (breaks_if unit) 0 unit in
+    let e = broken_by 53 (is_misplaced_part unit) 0 unit in
     let f = broken_by 53 is_unended 0 unit in
     let g = broken_by 55 (jumps_in unit) 0 unit in
     let h = broken_by 57 (is_out_of_order unit) 0 unit in
@@ -292,7 +292,7 @@ mapped (l ∷ units) zero u e = (l, refl, cc)
 mapped (l ∷ units) (suc k) u e = mapped units k u e
 
 -- the statements of some units, counted
-counted_in : (units : List ProgramUnit) → statements_of units ≡ length (flat_map (λ unit. unit.listing) units)
+counted_in : (units : List ProgramUnit) → statement_count units ≡ length (flat_map (λ unit. unit.listing) units)
 counted_in [] = refl
 counted_in (unit ∷ units) =
     let rest = counted_in units in

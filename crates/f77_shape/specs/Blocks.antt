@@ -49,8 +49,8 @@ ends_in [] = 0
 ends_in (listed ∷ following) = ends_count listed.stmt (ends_in following)
 
 -- code 53: an ELSE IF, ELSE or END IF without its IF, an ELSE IF or ELSE after an ELSE of the same IF
-abbrev pub breaks_if : (unit : List Listed) → ℕ → Listed → List Listed → Bool
-breaks_if unit place listed following = is_misplaced (open_at unit place) listed.stmt
+abbrev pub is_misplaced_part : (unit : List Listed) → ℕ → Listed → List Listed → Bool
+is_misplaced_part unit place listed following = is_misplaced (open_at unit place) listed.stmt
 
 -- code 53: an IF without its END IF
 abbrev pub lacks_end : Stmt → (ends : ℕ) → Bool

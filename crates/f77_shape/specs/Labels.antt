@@ -7,7 +7,7 @@ use Rattle.f77_ast.specs.declared.stmt.Stmt.{Stmt, out-Stmt}
 use Rattle.f77_ast.specs.declared.stmt.Stmt.TheOpen.{Stmt-F}
 use Rattle.f77_ast.specs.declared.stmt.Stmt.TheOpen as layer
 use Rattle.f77_ast.specs.declared.stmt.Stmt as stmt
-use Rattle.f77_meaning.specs.Loops.{terminal_of, is_label, has_label}
+use Rattle.f77_meaning.specs.Loops.{terminal_label, is_label, has_label}
 
 -- the statement that a logical IF holds; of any other statement it itself
 abbrev pub held_or : Stmt → Stmt-F Stmt → Stmt
@@ -30,7 +30,7 @@ jumps_of s = gone_to (inner_of s)
 
 -- all labels that a statement names: those to which it goes on, and that of a DO statement's terminal statement
 abbrev pub labels_of : Stmt → List ℕ
-labels_of s = option_to_list (terminal_of s) ++ jumps_of s
+labels_of s = option_to_list (terminal_label s) ++ jumps_of s
 
 -- the place of the first executable statement with a label among some statements, the first of which stands at this place
 abbrev pub target_from : (place label : ℕ) → List Listed → Option ℕ

@@ -3,7 +3,7 @@ use Rattle.std.specs.Prelude.{◌≡◌, ◌≢◌, ◌≤◌, ℕ, List, Some, 
 use Rattle.std.specs.List.{flat_map}
 use Rattle.f77_ast.specs.declared.program.Listed.{Listed}
 use Rattle.f77_ast.specs.declared.program.Unit.{Unit as ProgramUnit}
-use Rattle.f77_meaning.specs.Loops.{statements_of}
+use Rattle.f77_meaning.specs.Loops.{statement_count}
 use Rattle.f77_meaning.specs.Ranges.{RangesNest}
 use Rattle.f77_meaning.specs.Sound.{EndsWithEnd}
 use Rattle.f77_shape.specs.Shape.{shape_of}
@@ -17,7 +17,7 @@ AcceptedRangesNest = (statements : List Listed) (units : List ProgramUnit) → s
 -- at most
 pub record IsSmall (statements : List Listed) (units : List ProgramUnit) : Type 0 where
   pub all : flat_map (λ unit. unit.listing) units ≡ statements
-  pub counted : statements_of units ≡ length statements
+  pub counted : statement_count units ≡ length statements
   pub few_statements : length statements ≤ 10000
   pub few_units : length units ≤ 200
 

@@ -1,7 +1,7 @@
 pub mod Blocks
 pub mod Breaks
 pub mod Counts
-pub mod Held
+pub mod StretchIndex
 pub mod Jumps
 pub mod Labels
 pub mod Laws
@@ -10,7 +10,7 @@ pub mod NameSets
 pub mod Names
 pub mod Openers
 pub mod Order
-pub mod Places
+pub mod UnitTables
 pub mod Program
 pub mod Ranges
 pub mod Shape

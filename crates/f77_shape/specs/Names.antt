@@ -9,12 +9,12 @@ use Rattle.f77_ast.specs.declared.expr.Expr.TheOpen.{Expr-F, Part-F, Ref-F}
 use Rattle.f77_ast.specs.declared.expr.Expr.TheOpen as layer
 use Rattle.f77_ast.specs.declared.expr.Part.{Part, out-Part}
 use Rattle.f77_ast.specs.declared.expr.Ref.{Ref}
-use Rattle.f77_ast.specs.declared.initial.Constant.TheVariants as constant
-use Rattle.f77_ast.specs.declared.initial.Constant.{Constant}
-use Rattle.f77_ast.specs.declared.initial.DataGroup.{DataGroup}
-use Rattle.f77_ast.specs.declared.initial.DataValue.{DataValue}
-use Rattle.f77_ast.specs.declared.initial.Repeat.TheVariants as repeat
-use Rattle.f77_ast.specs.declared.initial.Repeat.{Repeat}
+use Rattle.f77_ast.specs.declared.data.DataConstant.TheVariants as constant
+use Rattle.f77_ast.specs.declared.data.DataConstant.{DataConstant}
+use Rattle.f77_ast.specs.declared.data.DataGroup.{DataGroup}
+use Rattle.f77_ast.specs.declared.data.DataValue.{DataValue}
+use Rattle.f77_ast.specs.declared.data.Repeat.TheVariants as repeat
+use Rattle.f77_ast.specs.declared.data.Repeat.{Repeat}
 use Rattle.f77_ast.specs.declared.specification.Bound.{Bound}
 use Rattle.f77_ast.specs.declared.specification.CommonGroup.{CommonGroup}
 use Rattle.f77_ast.specs.declared.specification.Declarator.{Declarator}
@@ -93,7 +93,7 @@ option_part_names (Some part) = option_names (out-Part part).low ++ option_names
 
 -- the names in the control of a DO or implied DO
 abbrev pub control_names : LoopControl → List (List ℕ)
-control_names control = control.variable ∷ (expr_names control.first ++ expr_names control.last ++ option_names control.step)
+control_names control = control.variable ∷ (expr_names control.first ++ expr_names control.last ++ option_names control.increment)
 
 -- the names in an item
 abbrev pub item_step : Item-F (List (List ℕ)) → List (List ℕ)
@@ -153,7 +153,7 @@ entry_names (entry.Entity name) = name ∷ []
 entry_names (entry.Block name) = name ∷ []
 
 -- the names in a constant of DATA, and in how often it stands
-abbrev pub constant_names : Constant → List (List ℕ)
+abbrev pub constant_names : DataConstant → List (List ℕ)
 constant_names (constant.Int value) = []
 constant_names (constant.Truth value) = []
 constant_names (constant.Chars text) = []

@@ -2,7 +2,7 @@
 use Rattle.std.specs.Prelude.{ℕ, Bool, true, false, ◌&&◌, ◌||◌, not, nat_lt, List, Option, None, Some, slice_get}
 use Rattle.std.specs.List.{list_any}
 use Rattle.f77_ast.specs.declared.program.Listed.{Listed}
-use Rattle.f77_meaning.specs.Loops.{terminal_of}
+use Rattle.f77_meaning.specs.Loops.{terminal_label}
 use Rattle.f77_meaning.specs.Ranges.{may_end_range}
 use Rattle.f77_shape.specs.Labels.{target_in}
 use Rattle.f77_shape.specs.declared.stretches.Stretch.{Stretch}
@@ -46,4 +46,4 @@ breaks_with unit place (Some label) = breaks_to unit place (target_in label unit
 
 -- code 52: a DO whose terminal statement or nesting breaks these
 abbrev pub breaks_range : (unit : List Listed) → ℕ → Listed → List Listed → Bool
-breaks_range unit place listed following = breaks_with unit place (terminal_of listed.stmt)
+breaks_range unit place listed following = breaks_with unit place (terminal_label listed.stmt)

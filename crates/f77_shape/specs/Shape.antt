@@ -5,7 +5,7 @@ use Rattle.f77_ast.specs.declared.program.Listed.{Listed}
 use Rattle.f77_ast.specs.declared.program.Unit.{Unit as ProgramUnit}
 use Rattle.f77_ast.specs.declared.refusal.Refusal.{Refusal}
 use Rattle.f77_cards.specs.Cards.{first_of}
-use Rattle.f77_shape.specs.Blocks.{breaks_if, is_unended}
+use Rattle.f77_shape.specs.Blocks.{is_misplaced_part, is_unended}
 use Rattle.f77_shape.specs.Breaks.{broken_by}
 use Rattle.f77_shape.specs.Jumps.{jumps_in}
 use Rattle.f77_shape.specs.Labels.{misses_label, doubles_label}
@@ -21,7 +21,7 @@ breaks_in unit =
     broken_by 50 (misses_label unit) 0 unit
     ++ broken_by 51 (doubles_label unit) 0 unit
     ++ broken_by 52 (breaks_range unit) 0 unit
-    ++ broken_by 53 (breaks_if unit) 0 unit
+    ++ broken_by 53 (is_misplaced_part unit) 0 unit
     ++ broken_by 53 is_unended 0 unit
     ++ broken_by 55 (jumps_in unit) 0 unit
     ++ broken_by 57 (is_out_of_order unit) 0 unit

@@ -4,7 +4,7 @@ use Rattle.std.specs.Option.{option_to_list, option_and_then}
 use Rattle.f77_ast.specs.declared.program.Listed.{Listed}
 use Rattle.f77_ast.specs.declared.stmt.Stmt.{Stmt}
 use Rattle.f77_shape.specs.declared.stretches.Stretch.{Stretch}
-use Rattle.f77_meaning.specs.Loops.{terminal_of}
+use Rattle.f77_meaning.specs.Loops.{terminal_label}
 use Rattle.f77_shape.specs.Blocks.{parts_behind, ends_block}
 use Rattle.f77_shape.specs.Labels.{target_in}
 
@@ -19,7 +19,7 @@ range_to place None = None
 range_to place (Some target) = if nat_lt place target then Some (record { opens = place; last = target }) else None
 
 abbrev pub range_at : (unit : List Listed) → (place : ℕ) → Listed → Option Stretch
-range_at unit place listed = range_to place (option_and_then (λ label. target_in label unit) (terminal_of listed.stmt))
+range_at unit place listed = range_to place (option_and_then (λ label. target_in label unit) (terminal_label listed.stmt))
 
 abbrev pub ranges_from : (unit : List Listed) → (place : ℕ) → List Listed → List Stretch
 ranges_from unit place [] = []

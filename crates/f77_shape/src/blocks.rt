@@ -1,10 +1,10 @@
 //! Block IFs: IF with THEN, ELSE IF, ELSE and END IF (ANSI X3.9-1978, sections 11.6 to 11.9).
 ghost use Rattle.std.specs.Prelude.{◌≡◌, ◌<◌, ◌-◌, ◌^◌, [], reverse, IfOk, OnOk};
 ghost use Rattle.f77_cards.specs.Cards.{first_of};
-ghost use Rattle.f77_shape.specs.Blocks.{opened_by, none_open, takes_no_else, is_misplaced, ends_count, breaks_if, lacks_end, is_unended};
+ghost use Rattle.f77_shape.specs.Blocks.{opened_by, none_open, takes_no_else, is_misplaced, ends_count, is_misplaced_part, lacks_end, is_unended};
 ghost use Rattle.f77_shape.specs.Breaks.{broken_by};
 
-use crate::breaks::{IF_NESTING, sooner, when};
+use crate::breaks::{IF_NESTING, refused_if, sooner};
 use f77_ast::program::Listed;
 use f77_ast::refusal::Refusal;
 use f77_ast::stmt::Stmt;
@@ -60,13 +60,13 @@ fn go_on(elses: &mut Vec<bool>, stmt: &Stmt) -> Result<(), NoMemory>
 
 /// Code 53: the first ELSE IF, ELSE or END IF of a unit without its IF, or ELSE IF or ELSE after an ELSE of the same IF.
 pub fn misplaced_part(alloc: Global, unit: &[Listed]) -> Result<Option<Refusal>, NoMemory>
-    ensures { IfOk result (λ first. first ≡ first_of (broken_by 53 (breaks_if unit.now) 0 unit.now)) }
+    ensures { IfOk result (λ first. first ≡ first_of (broken_by 53 (is_misplaced_part unit.now) 0 unit.now)) }
 {
     let mut first = None;
     let mut elses: Vec<bool> = Vec::new(alloc);
     for listed in unit {
         let breaks = is_misplaced(&elses, &listed.stmt);
-        first = sooner(first, when(breaks, listed, IF_NESTING));
+        first = sooner(first, refused_if(breaks, listed, IF_NESTING));
         go_on(&mut elses, &listed.stmt)?;
     }
     Ok(first)
@@ -82,7 +82,8 @@ fn lacks_end(stmt: &Stmt, ends: usize) -> bool
     }
 }
 
-/// How many END IFs have no IF, from one statement before on.
+/// How many END IFs from this statement on have their IF before it, where `ends` is that number for the statements
+/// behind it.
 fn ends_count(stmt: &Stmt, ends: usize) -> usize
     requires { ends < 2 ^ 64 - 1 }
     ensures { result ≡ ends_count stmt.now ends }
@@ -105,7 +106,7 @@ pub fn unended_if(unit: &[Listed]) -> Option<Refusal>
         place -= 1;
         let listed = &unit[place];
         first = sooner(
-            when(lacks_end(&listed.stmt, ends), listed, IF_NESTING),
+            refused_if(lacks_end(&listed.stmt, ends), listed, IF_NESTING),
             first,
         );
         ends = ends_count(&listed.stmt, ends);

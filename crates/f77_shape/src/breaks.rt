@@ -1,4 +1,4 @@
-//! The first of some refusals.
+//! The codes 50 to 57, a statement's refusal by one of them, and the earlier of two refusals.
 ghost use Rattle.std.specs.Prelude.{◌≡◌, Some, None, if◌then◌else◌};
 ghost use Rattle.f77_cards.specs.Cards.{is_earlier, earlier_of};
 ghost use Rattle.f77_shape.specs.Breaks.{at, sooner};
@@ -31,7 +31,7 @@ pub const SIZE_LIMIT: u8 = 56;
 pub const STATEMENT_ORDER: u8 = 57;
 
 /// A refusal of a statement, where it breaks a rule.
-pub fn when(breaks: bool, listed: &Listed, code: u8) -> Option<Refusal>
+pub fn refused_if(breaks: bool, listed: &Listed, code: u8) -> Option<Refusal>
     ensures { result ≡ (if breaks then Some (at listed.now code) else None) }
 {
     if breaks {

@@ -5,20 +5,20 @@ ghost use Rattle.f77_cards.specs.Cards.{first_of};
 ghost use Rattle.f77_shape.specs.Breaks.{broken_by};
 ghost use Rattle.f77_shape.specs.Jumps.{enters, jumps_in};
 ghost use Rattle.f77_shape.specs.Labels.{gone_to, jumps_of, target_in};
-ghost use Rattle.f77_shape.specs.Places.{ArePlaces};
+ghost use Rattle.f77_shape.specs.UnitTables.{AreUnitTables};
 ghost use Rattle.f77_ast.specs.declared.program.Listed.{Listed};
 ghost use Rattle.std.specs.Prelude.{List};
 
-use crate::breaks::{JUMP_INTO_RANGE, sooner, when};
-use crate::places::Places;
+use crate::breaks::{JUMP_INTO_RANGE, refused_if, sooner};
 use crate::targets::inner_of;
+use crate::unit_tables::UnitTables;
 use f77_ast::program::Listed;
 use f77_ast::refusal::Refusal;
 use f77_ast::stmt::{Label, Stmt};
 
 /// Whether a jump from a place to a label enters a DO range or an IF block.
-fn enters(places: &Places, from: usize, label: Label) -> bool
-    ensures { (unit : List Listed) → ArePlaces unit places.now → result ≡ enters unit from (target_in label unit) }
+fn enters(places: &UnitTables, from: usize, label: Label) -> bool
+    ensures { (unit : List Listed) → AreUnitTables unit places.now → result ≡ enters unit from (target_in label unit) }
 {
     match places.targets.find(label) {
         None => false,
@@ -27,8 +27,8 @@ fn enters(places: &Places, from: usize, label: Label) -> bool
 }
 
 /// The same of one of some labels.
-fn enters_by_one(places: &Places, from: usize, labels: &[Label]) -> bool
-    ensures { (unit : List Listed) → ArePlaces unit places.now → result ≡ list_any (λ label. enters unit from (target_in label unit)) labels.now }
+fn enters_by_one(places: &UnitTables, from: usize, labels: &[Label]) -> bool
+    ensures { (unit : List Listed) → AreUnitTables unit places.now → result ≡ list_any (λ label. enters unit from (target_in label unit)) labels.now }
 {
     for label in labels {
         if enters(places, from, *label) {
@@ -39,8 +39,8 @@ fn enters_by_one(places: &Places, from: usize, labels: &[Label]) -> bool
 }
 
 /// Whether GO TO, a computed GO TO or an arithmetic IF at a place enters a DO range or an IF block.
-fn goes_in(places: &Places, from: usize, stmt: &Stmt) -> bool
-    ensures { (unit : List Listed) → ArePlaces unit places.now → result ≡ list_any (λ label. enters unit from (target_in label unit)) (gone_to stmt.now) }
+fn goes_in(places: &UnitTables, from: usize, stmt: &Stmt) -> bool
+    ensures { (unit : List Listed) → AreUnitTables unit places.now → result ≡ list_any (λ label. enters unit from (target_in label unit)) (gone_to stmt.now) }
 {
     match stmt {
         Stmt::Goto(label) => enters(places, from, *label),
@@ -60,14 +60,14 @@ fn goes_in(places: &Places, from: usize, stmt: &Stmt) -> bool
 }
 
 /// Code 55: the first GO TO or arithmetic IF of a unit with a label in a DO range or IF block that doesn't hold it.
-pub fn jump_in(unit: &[Listed], places: &Places) -> Option<Refusal>
-    requires { ArePlaces unit.now places.now }
+pub fn jump_in(unit: &[Listed], places: &UnitTables) -> Option<Refusal>
+    requires { AreUnitTables unit.now places.now }
     ensures { result ≡ first_of (broken_by 55 (jumps_in unit.now) 0 unit.now) }
 {
     let mut first = None;
     for (place, listed) in unit.iter().enumerate() {
         let breaks = goes_in(places, place, inner_of(&listed.stmt));
-        first = sooner(first, when(breaks, listed, JUMP_INTO_RANGE));
+        first = sooner(first, refused_if(breaks, listed, JUMP_INTO_RANGE));
     }
     first
 }

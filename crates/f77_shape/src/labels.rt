@@ -1,17 +1,17 @@
-//! Labels that no statement has, and labels that two have.
+//! Labels that no executable statement has, and labels that two statements have.
 ghost use Rattle.std.specs.Prelude.{◌≡◌, ℕ, IfOk, OnOk, ◌||◌, nat_eq};
 ghost use Rattle.std.specs.HashSet.{contains};
 ghost use Rattle.std.specs.List.{list_any};
 ghost use Rattle.std.specs.Option.{option_to_list};
 ghost use Rattle.f77_cards.specs.Cards.{first_of};
-ghost use Rattle.f77_meaning.specs.Loops.{terminal_of, is_label};
+ghost use Rattle.f77_meaning.specs.Loops.{terminal_label, is_label};
 ghost use Rattle.f77_shape.specs.Breaks.{broken_by};
 ghost use Rattle.f77_shape.specs.Labels.{gone_to, labels_of, misses_label, doubles_label};
 ghost use Rattle.f77_shape.specs.Targets.{AreTargets};
 ghost use Rattle.f77_shape.specs.Tables.{lacks, is_seen};
 
-use crate::breaks::{DOUBLE_LABEL, LABEL_MISSING, sooner, when};
-use crate::targets::{Targets, inner_of, terminal_of};
+use crate::breaks::{DOUBLE_LABEL, LABEL_MISSING, refused_if, sooner};
+use crate::targets::{Targets, inner_of, terminal_label};
 use f77_ast::program::Listed;
 use f77_ast::refusal::Refusal;
 use f77_ast::stmt::{Label, Stmt};
@@ -52,9 +52,9 @@ fn misses_jump(targets: &Targets, stmt: &Stmt) -> bool
 
 /// The same of the terminal statement's label of a DO statement.
 fn misses_terminal(targets: &Targets, stmt: &Stmt) -> bool
-    ensures { result ≡ list_any (lacks targets.now) (option_to_list (terminal_of stmt.now)) }
+    ensures { result ≡ list_any (lacks targets.now) (option_to_list (terminal_label stmt.now)) }
 {
-    match terminal_of(stmt) {
+    match terminal_label(stmt) {
         None => false,
         Some(label) => lacks(targets, label),
     }
@@ -75,7 +75,7 @@ pub fn missing_label(unit: &[Listed], targets: &Targets) -> Option<Refusal>
     let mut first = None;
     for listed in unit {
         let breaks = misses_label(targets, &listed.stmt);
-        first = sooner(first, when(breaks, listed, LABEL_MISSING));
+        first = sooner(first, refused_if(breaks, listed, LABEL_MISSING));
     }
     first
 }
@@ -99,7 +99,7 @@ pub fn double_label(alloc: Global, unit: &[Listed]) -> Result<Option<Refusal>, N
     let mut seen = HashSet::new(alloc);
     for listed in unit {
         let breaks = note_again(&mut seen, listed.card.label)?;
-        first = sooner(first, when(breaks, listed, DOUBLE_LABEL));
+        first = sooner(first, refused_if(breaks, listed, DOUBLE_LABEL));
     }
     Ok(first)
 }

@@ -7,7 +7,6 @@
 
 mod blocks;
 mod breaks;
-mod held;
 mod jumps;
 mod labels;
 pub mod laws;
@@ -15,12 +14,13 @@ mod limits;
 mod names;
 mod openers;
 mod order;
-mod places;
 mod program;
 mod ranges;
 pub mod shape;
+mod stretch_index;
 mod stretches;
 mod targets;
 #[cfg(test)]
 mod tests;
+mod unit_tables;
 mod units;

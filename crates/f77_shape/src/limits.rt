@@ -4,7 +4,7 @@ ghost use Rattle.f77_cards.specs.Cards.{first_of};
 ghost use Rattle.f77_shape.specs.Counts.{IsCounted};
 ghost use Rattle.f77_shape.specs.Limits.{statement_breaks, unit_breaks, name_breaks, passes};
 
-use crate::breaks::{SIZE_LIMIT, sooner, when};
+use crate::breaks::{SIZE_LIMIT, refused_if, sooner};
 use crate::names::Names;
 use crate::program::first_refused;
 use f77_ast::program::{Listed, Unit};
@@ -27,7 +27,7 @@ pub fn too_many_statements(statements: &[Listed]) -> Option<Refusal>
 {
     match statements.get(MOST_STATEMENTS) {
         None => None,
-        Some(listed) => when(true, listed, SIZE_LIMIT),
+        Some(listed) => refused_if(true, listed, SIZE_LIMIT),
     }
 }
 
@@ -75,7 +75,7 @@ fn count_names(alloc: Global, others: usize, unit: &[Listed]) -> Result<Counted,
     for listed in unit {
         names.statement(&listed.stmt)?;
         let after = capped(others, names.len());
-        over = sooner(over, when(passes(count, after), listed, SIZE_LIMIT));
+        over = sooner(over, refused_if(passes(count, after), listed, SIZE_LIMIT));
         count = after;
     }
     Ok(Counted { over, count })

@@ -6,8 +6,8 @@ ghost use Rattle.f77_shape.specs.Limits.{name_count};
 ghost use Rattle.f77_shape.specs.Names.{expr_names, ref_names, args_names, option_part_names, option_names, control_names, item_names, length_names, type_names, option_type_names, bound_names, declarator_names, entity_names, group_names, member_names, named_names, rule_names, entry_names, constant_names, repeat_names, value_names, data_names, names_in};
 ghost use Rattle.f77_shape.specs.NameSets.{Adds, Holds};
 
+use f77_ast::data::{DataConstant, DataGroup, DataValue, Repeat};
 use f77_ast::expr::{Expr, Part, Ref};
-use f77_ast::initial::{Constant, DataGroup, DataValue, Repeat};
 use f77_ast::name::Name;
 use f77_ast::specification::{
     Bound, CommonGroup, Declarator, EquivalenceGroup, ImplicitRule, Length, NamedConstant,
@@ -171,7 +171,7 @@ impl Names {
         self.add(&control.variable)?;
         self.expr(&control.first)?;
         self.expr(&control.last)?;
-        self.option(&control.step)?;
+        self.option(&control.increment)?;
         Ok(())
     }
 
@@ -392,14 +392,14 @@ impl Names {
     }
 
     /// Adds the name in a constant of DATA.
-    fn datum(&mut self, constant: &Constant) -> Result<(), NoMemory>
+    fn datum(&mut self, constant: &DataConstant) -> Result<(), NoMemory>
         ensures { OnOk result (Adds (constant_names constant.now) self.old self.new) }
     {
         match constant {
-            Constant::Int(_) => Ok(()),
-            Constant::Truth(_) => Ok(()),
-            Constant::Chars(_) => Ok(()),
-            Constant::Named(name) => self.add(name),
+            DataConstant::Int(_) => Ok(()),
+            DataConstant::Truth(_) => Ok(()),
+            DataConstant::Chars(_) => Ok(()),
+            DataConstant::Named(name) => self.add(name),
         }
     }
 

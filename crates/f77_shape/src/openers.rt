@@ -62,7 +62,8 @@ pub fn openers_of(
     count: usize,
     stretches: &[Stretch],
 ) -> Result<Vec<usize>, NoMemory>
-    ensures { IfOk result (λ openers. AreOpeners stretches.now openers.items) }
+    ensures found { IfOk result (λ openers. AreOpeners stretches.now openers.items) }
+    ensures count { IfOk result (λ openers. length openers.items ≡ count) }
 {
     let farthest = farthest_of(alloc, count, stretches)?;
     let openers = sweep(alloc, farthest.as_slice())?;

@@ -4,7 +4,7 @@ ghost use Rattle.f77_cards.specs.Cards.{first_of};
 ghost use Rattle.f77_shape.specs.Breaks.{broken_by};
 ghost use Rattle.f77_shape.specs.Order.{part_of, follows_part, has_return, is_out_of_order};
 
-use crate::breaks::{STATEMENT_ORDER, sooner, when};
+use crate::breaks::{STATEMENT_ORDER, refused_if, sooner};
 use crate::targets::inner_of;
 use crate::units::is_main;
 use f77_ast::program::Listed;
@@ -79,7 +79,7 @@ pub fn wrong_order(unit: &[Listed]) -> Option<Refusal>
     let mut latest = 0;
     for listed in unit {
         let breaks = is_out_of_order(main, latest, &listed.stmt);
-        first = sooner(first, when(breaks, listed, STATEMENT_ORDER));
+        first = sooner(first, refused_if(breaks, listed, STATEMENT_ORDER));
         latest = u8::max(latest, part_of(&listed.stmt));
     }
     first

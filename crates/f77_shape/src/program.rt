@@ -4,7 +4,7 @@ ghost use Rattle.f77_cards.specs.Cards.{first_of, when};
 ghost use Rattle.f77_shape.specs.Program.{no_program, first_refused, main_breaks, end_breaks};
 ghost use Rattle.f77_shape.specs.Units.{is_main};
 
-use crate::breaks::{NO_PROGRAM, sooner, when};
+use crate::breaks::{NO_PROGRAM, refused_if, sooner};
 use crate::units::{is_end, is_main};
 use f77_ast::program::{Listed, Unit};
 use f77_ast::refusal::Refusal;
@@ -25,7 +25,7 @@ pub fn first_refused(listing: &[Listed], code: u8) -> Option<Refusal>
 {
     match listing.first() {
         None => None,
-        Some(first) => when(true, first, code),
+        Some(first) => refused_if(true, first, code),
     }
 }
 
@@ -81,7 +81,7 @@ pub fn bad_end(statements: &[Listed]) -> Option<Refusal>
             } else if statements.len() == 1 {
                 Some(no_program())
             } else {
-                when(true, last, NO_PROGRAM)
+                refused_if(true, last, NO_PROGRAM)
             }
         }
     }

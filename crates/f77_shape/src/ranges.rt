@@ -2,16 +2,16 @@
 ghost use Rattle.std.specs.Prelude.{◌≡◌, ◌<◌, ◌-◌, ◌^◌, List, length, slice_get, ◌||◌, Some};
 ghost use Rattle.f77_ast.specs.declared.program.Listed.{Listed};
 ghost use Rattle.f77_cards.specs.Cards.{first_of};
-ghost use Rattle.f77_meaning.specs.Loops.{terminal_of};
+ghost use Rattle.f77_meaning.specs.Loops.{terminal_label};
 ghost use Rattle.f77_meaning.specs.Ranges.{may_end_range};
 ghost use Rattle.f77_shape.specs.Breaks.{broken_by};
 ghost use Rattle.f77_shape.specs.Labels.{target_in};
-ghost use Rattle.f77_shape.specs.Places.{ArePlaces};
+ghost use Rattle.f77_shape.specs.UnitTables.{AreUnitTables};
 ghost use Rattle.f77_shape.specs.Ranges.{may_end, crosses_a_range, leaves_a_block, breaks_to, breaks_with, breaks_range};
 
-use crate::breaks::{DO_NESTING, sooner, when};
-use crate::places::Places;
-use crate::targets::{is_executable, terminal_of};
+use crate::breaks::{DO_NESTING, refused_if, sooner};
+use crate::targets::{is_executable, terminal_label};
+use crate::unit_tables::UnitTables;
 use f77_ast::program::Listed;
 use f77_ast::refusal::Refusal;
 use f77_ast::stmt::{Label, Stmt};
@@ -48,24 +48,24 @@ fn may_end(unit: &[Listed], place: usize) -> bool
 
 /// Whether the range of a DO statement crosses one of the ranges of its unit: one that holds the DO statement and not its
 /// terminal statement, or one that opens behind the DO statement and holds the place behind its terminal statement.
-fn crosses_a_range(places: &Places, place: usize, target: usize) -> bool
+fn crosses_a_range(places: &UnitTables, place: usize, target: usize) -> bool
     requires behind { place < target }
     requires room { target < 2 ^ 64 - 1 }
-    ensures { (unit : List Listed) → ArePlaces unit places.now → result ≡ crosses_a_range unit (record { opens = place; last = target }) }
+    ensures { (unit : List Listed) → AreUnitTables unit places.now → result ≡ crosses_a_range unit (record { opens = place; last = target }) }
 {
     places.ranges.is_entered(target, place) || places.ranges.is_entered(place + 1, target + 1)
 }
 
 /// Whether one of the blocks of a unit holds only one of a DO statement and its terminal statement.
-fn leaves_a_block(places: &Places, place: usize, target: usize) -> bool
-    ensures { (unit : List Listed) → ArePlaces unit places.now → result ≡ leaves_a_block unit (record { opens = place; last = target }) }
+fn leaves_a_block(places: &UnitTables, place: usize, target: usize) -> bool
+    ensures { (unit : List Listed) → AreUnitTables unit places.now → result ≡ leaves_a_block unit (record { opens = place; last = target }) }
 {
     places.blocks.is_entered(target, place) || places.blocks.is_entered(place, target)
 }
 
 /// Whether the range of a DO statement to a terminal statement behind it breaks the rules.
-fn breaks_behind(unit: &[Listed], places: &Places, place: usize, target: usize) -> bool
-    requires places { ArePlaces unit.now places.now }
+fn breaks_behind(unit: &[Listed], places: &UnitTables, place: usize, target: usize) -> bool
+    requires places { AreUnitTables unit.now places.now }
     requires behind { place < target }
     requires room { target < length unit.now }
     ensures { result ≡ (crosses_a_range unit.now (record { opens = place; last = target }) || leaves_a_block unit.now (record { opens = place; last = target })) }
@@ -74,8 +74,8 @@ fn breaks_behind(unit: &[Listed], places: &Places, place: usize, target: usize) 
 }
 
 /// Whether the range of a DO statement to this place breaks the rules.
-fn breaks_to(unit: &[Listed], places: &Places, place: usize, target: usize) -> bool
-    requires { ArePlaces unit.now places.now }
+fn breaks_to(unit: &[Listed], places: &UnitTables, place: usize, target: usize) -> bool
+    requires { AreUnitTables unit.now places.now }
     ensures { result ≡ breaks_to unit.now place (Some target) }
 {
     if place < target && target < unit.len() && may_end(unit, target) {
@@ -86,16 +86,16 @@ fn breaks_to(unit: &[Listed], places: &Places, place: usize, target: usize) -> b
 }
 
 /// The place of the first executable statement of a unit with a label.
-fn target_in(unit: &[Listed], places: &Places, label: Label) -> Option<usize>
-    requires { ArePlaces unit.now places.now }
+fn target_in(unit: &[Listed], places: &UnitTables, label: Label) -> Option<usize>
+    requires { AreUnitTables unit.now places.now }
     ensures { result ≡ target_in label unit.now }
 {
     places.targets.find(label)
 }
 
 /// Whether a DO statement at a place that names this label breaks the rules.
-fn breaks_by(unit: &[Listed], places: &Places, place: usize, label: Label) -> bool
-    requires { ArePlaces unit.now places.now }
+fn breaks_by(unit: &[Listed], places: &UnitTables, place: usize, label: Label) -> bool
+    requires { AreUnitTables unit.now places.now }
     ensures { result ≡ breaks_to unit.now place (target_in label unit.now) }
 {
     match target_in(unit, places, label) {
@@ -105,25 +105,25 @@ fn breaks_by(unit: &[Listed], places: &Places, place: usize, label: Label) -> bo
 }
 
 /// Whether a statement is a DO statement whose terminal statement or nesting breaks the rules.
-fn breaks_range(unit: &[Listed], places: &Places, place: usize, stmt: &Stmt) -> bool
-    requires { ArePlaces unit.now places.now }
-    ensures { result ≡ breaks_with unit.now place (terminal_of stmt.now) }
+fn breaks_range(unit: &[Listed], places: &UnitTables, place: usize, stmt: &Stmt) -> bool
+    requires { AreUnitTables unit.now places.now }
+    ensures { result ≡ breaks_with unit.now place (terminal_label stmt.now) }
 {
-    match terminal_of(stmt) {
+    match terminal_label(stmt) {
         None => false,
         Some(label) => breaks_by(unit, places, place, label),
     }
 }
 
 /// Code 52: the first DO statement of a unit whose terminal statement or nesting breaks the rules.
-pub fn bad_range(unit: &[Listed], places: &Places) -> Option<Refusal>
-    requires { ArePlaces unit.now places.now }
+pub fn bad_range(unit: &[Listed], places: &UnitTables) -> Option<Refusal>
+    requires { AreUnitTables unit.now places.now }
     ensures { result ≡ first_of (broken_by 52 (breaks_range unit.now) 0 unit.now) }
 {
     let mut first = None;
     for (place, listed) in unit.iter().enumerate() {
         let breaks = breaks_range(unit, places, place, &listed.stmt);
-        first = sooner(first, when(breaks, listed, DO_NESTING));
+        first = sooner(first, refused_if(breaks, listed, DO_NESTING));
     }
     first
 }

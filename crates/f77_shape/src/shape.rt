@@ -12,9 +12,9 @@ use crate::jumps::jump_in;
 use crate::labels::{double_label, missing_label};
 use crate::limits::{too_many_names, too_many_statements, too_many_units};
 use crate::order::wrong_order;
-use crate::places::places_of;
 use crate::program::{bad_end, bad_main};
 use crate::ranges::bad_range;
+use crate::unit_tables::unit_tables;
 use crate::units::units_of;
 use f77_ast::program::{Listed, Listing, Unit, Units};
 use f77_ast::refusal::{FrontError, Refusal};
@@ -84,7 +84,7 @@ fn units_break(alloc: Global, units: &[Unit]) -> Result<Option<Refusal>, NoMemor
 fn unit_break(alloc: Global, unit: &[Listed]) -> Result<Option<Refusal>, NoMemory>
     ensures { IfOk result (λ first. first ≡ first_of (breaks_in unit.now)) }
 {
-    let places = places_of(alloc, unit)?;
+    let places = unit_tables(alloc, unit)?;
     let missing = missing_label(unit, &places.targets);
     let double = double_label(alloc, unit)?;
     let range = bad_range(unit, &places);

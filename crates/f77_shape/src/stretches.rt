@@ -3,12 +3,12 @@ ghost use Rattle.std.specs.Prelude.{◌≡◌, ◌++◌, List, [], ◌∷◌, re
 ghost use Rattle.std.specs.List.{list_any};
 ghost use Rattle.std.specs.Option.{option_to_list, option_and_then};
 ghost use Rattle.f77_ast.specs.declared.program.Listed.{Listed};
-ghost use Rattle.f77_meaning.specs.Loops.{terminal_of};
+ghost use Rattle.f77_meaning.specs.Loops.{terminal_label};
 ghost use Rattle.f77_shape.specs.Blocks.{ends_block, parts_behind};
 ghost use Rattle.f77_shape.specs.Stretches.{holds, range_to, ranges_of, block_before, blocks_of};
 ghost use Rattle.f77_shape.specs.Targets.{place_of, AreTargets};
 
-use crate::targets::{Targets, terminal_of};
+use crate::targets::{Targets, terminal_label};
 use f77_ast::program::Listed;
 use f77_ast::stmt::Stmt;
 use hyb_base::no_memory::NoMemory;
@@ -62,9 +62,9 @@ fn range_to(place: usize, target: Option<usize>) -> Option<Stretch>
 
 /// The place of the terminal statement that a DO statement names.
 fn terminal_place(targets: &Targets, stmt: &Stmt) -> Option<usize>
-    ensures { result ≡ option_and_then (place_of targets.now) (terminal_of stmt.now) }
+    ensures { result ≡ option_and_then (place_of targets.now) (terminal_label stmt.now) }
 {
-    match terminal_of(stmt) {
+    match terminal_label(stmt) {
         None => None,
         Some(label) => targets.find(label),
     }

@@ -1,6 +1,6 @@
 //! The labels that statements name, and the statements that they mean.
 ghost use Rattle.std.specs.Prelude.{◌≡◌, ℕ, Some, None, IfOk, OnOk, if◌then◌else◌};
-ghost use Rattle.f77_meaning.specs.Loops.{terminal_of, has_label};
+ghost use Rattle.f77_meaning.specs.Loops.{terminal_label, has_label};
 ghost use Rattle.f77_meaning.specs.Process.{is_executable};
 ghost use Rattle.f77_shape.specs.Labels.{inner_of};
 ghost use Rattle.f77_shape.specs.Targets.{place_of, AreTargets};
@@ -33,8 +33,8 @@ pub fn is_executable(stmt: &Stmt) -> bool
 }
 
 /// The label of the terminal statement that a DO statement names; none of any other statement (section 11.10).
-pub fn terminal_of(stmt: &Stmt) -> Option<Label>
-    ensures { result ≡ terminal_of stmt.now }
+pub fn terminal_label(stmt: &Stmt) -> Option<Label>
+    ensures { result ≡ terminal_label stmt.now }
 {
     match stmt {
         Stmt::Do { terminal, .. } => Some(*terminal),

@@ -125,7 +125,7 @@ fn a_statement_on(alloc: Global, word: &[u8]) -> Result<Stmt, Fail> {
                 variable: a_name()?,
                 first: Expr::Int(1),
                 last: Expr::Int(2),
-                step: None,
+                increment: None,
             },
         },
         [b'G', b'O', ..] => Stmt::Goto(label),

@@ -6,8 +6,8 @@ use Rattle.std.proofs.lemmas.List.{append_assoc, append-nil}
 use Rattle.std.proofs.lemmas.List.Folds.{list_any-append}
 use Rattle.f77_ast.specs.declared.specification.Declarator.{Declarator}
 use Rattle.f77_ast.specs.declared.specification.TypedDeclarator.{TypedDeclarator}
-use Rattle.f77_meaning.specs.Storage.{units_by}
-use Rattle.f77_subset.specs.declared.names.Mention.{Mention}
+use Rattle.f77_meaning.specs.Storage.{storage_units_by}
+use Rattle.f77_subset.specs.declared.mention.Mention.{Mention}
 use Rattle.f77_subset.specs.declared.table.Table.{Table}
 use Rattle.f77_subset.specs.Names.{is_of, undeclared, firsts}
 use Rattle.f77_subset.specs.Rules.{storage_limit, declares_once}
@@ -49,16 +49,16 @@ module _ (programs : List (List ℕ)) where
 
   -- whether a name may be declared behind others
   abbrev pub fine : (xs : List Declarator) → Declarator → Bool
-  fine xs d = not (list_any (is_of d.name) xs) && not (list_any (pointwise nat_eq d.name) programs) && nat_le 1 (units_by d.bounds)
+  fine xs d = not (list_any (is_of d.name) xs) && not (list_any (pointwise nat_eq d.name) programs) && nat_le 1 (storage_units_by d.bounds)
 
   declared_by_is : (xs : List Declarator) (d : Declarator) (any program : Bool) → list_any (is_of d.name) xs ≡ any
-      → (if any || program then None else placed (table_of programs (firsts xs)) d) ≡ Where (not any && not program && nat_le 1 (units_by d.bounds) && small (xs ++ d ∷ [])) (table_of programs (firsts (xs ++ d ∷ [])))
+      → (if any || program then None else placed (table_of programs (firsts xs)) d) ≡ Where (not any && not program && nat_le 1 (storage_units_by d.bounds) && small (xs ++ d ∷ [])) (table_of programs (firsts (xs ++ d ∷ [])))
   declared_by_is xs d true program e = refl
   declared_by_is xs d false true e = refl
   declared_by_is xs d false false e =
       let names : firsts (xs ++ d ∷ []) ≡ firsts xs ++ d ∷ [] = firsts_more xs d ∙ ap (λ t. firsts xs ++ (if t then [] else d ∷ [])) e in
       placed_is programs (firsts xs) d
-      ∙ (λ i. Where (nat_le 1 (units_by d.bounds) && nat_le (sym (ap total_units names ∙ total_more (firsts xs) d) i) storage_limit) (table_of programs (sym names i)))
+      ∙ (λ i. Where (nat_le 1 (storage_units_by d.bounds) && nat_le (sym (ap total_units names ∙ total_more (firsts xs) d) i) storage_limit) (table_of programs (sym names i)))
 
   declared_step : (xs : List Declarator) (d : Declarator) → declared_by (table_of programs (firsts xs)) d ≡ Where (fine xs d && small (xs ++ d ∷ [])) (table_of programs (firsts (xs ++ d ∷ [])))
   declared_step xs d =
@@ -80,8 +80,8 @@ module _ (programs : List (List ℕ)) where
   fine_more : (xs : List Declarator) (d : Declarator) (ds : List Declarator) → list_all (fine (xs ++ d ∷ [])) ds ≡ (list_all (fine xs) ds && not (list_any (λ later. is_of later.name d) ds))
   fine_more xs d [] = refl
   fine_more xs d (e ∷ ds) =
-      (λ i. (not (list_any-append (is_of e.name) xs (d ∷ []) i) && not (list_any (pointwise nat_eq e.name) programs) && nat_le 1 (units_by e.bounds)) && fine_more xs d ds i)
-      ∙ fine_by (list_any (is_of e.name) xs) (list_any (pointwise nat_eq e.name) programs) (is_of e.name d) (nat_le 1 (units_by e.bounds)) (list_all (fine xs) ds) (list_any (λ later. is_of later.name d) ds)
+      (λ i. (not (list_any-append (is_of e.name) xs (d ∷ []) i) && not (list_any (pointwise nat_eq e.name) programs) && nat_le 1 (storage_units_by e.bounds)) && fine_more xs d ds i)
+      ∙ fine_by (list_any (is_of e.name) xs) (list_any (pointwise nat_eq e.name) programs) (is_of e.name d) (nat_le 1 (storage_units_by e.bounds)) (list_all (fine xs) ds) (list_any (λ later. is_of later.name d) ds)
 
   abbrev pub declarators : List TypedDeclarator → List Declarator
   declarators entities = map (λ entity. entity.declarator) entities

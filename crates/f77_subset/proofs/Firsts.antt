@@ -8,7 +8,7 @@ use Rattle.std.proofs.lemmas.List.Elements.{filter-append}
 use Rattle.f77_ast.specs.Entity.{entity_in}
 use Rattle.f77_ast.specs.declared.specification.Bound.{Bound}
 use Rattle.f77_ast.specs.declared.specification.Declarator.{Declarator}
-use Rattle.f77_meaning.specs.Storage.{units_by}
+use Rattle.f77_meaning.specs.Storage.{storage_units_by}
 use Rattle.f77_subset.specs.Names.{is_of, firsts}
 use Rattle.f77_subset.specs.Rules.{storage_limit}
 use Rattle.f77_subset.specs.Storage.{total_units, entity_at, entities_from, regions_from}
@@ -87,29 +87,29 @@ pub units_append : (xs ys : List Declarator) → total_units (xs ++ ys) ≡ tota
 units_append [] ys = omega arith
 units_append (x ∷ xs) ys = let e = units_append xs ys in omega arith
 
-pub total_more : (ds : List Declarator) (d : Declarator) → total_units (ds ++ d ∷ []) ≡ total_units ds + units_by d.bounds
+pub total_more : (ds : List Declarator) (d : Declarator) → total_units (ds ++ d ∷ []) ≡ total_units ds + storage_units_by d.bounds
 total_more [] d = omega arith
 total_more (x ∷ ds) d = let e = total_more ds d in omega arith
 
 entities_more : (at : ℕ) (ds : List Declarator) (d : Declarator) → entities_from at (ds ++ d ∷ []) ≡ entities_from at ds ++ entity_at (at + total_units ds) d ∷ []
 entities_more at [] d = let e : at ≡ at + 0 = omega arith in ap (λ n. entity_at n d ∷ []) e
 entities_more at (x ∷ ds) d =
-    let e : at + units_by x.bounds + total_units ds ≡ at + (units_by x.bounds + total_units ds) = omega arith in
-    ap (λ l. entity_at at x ∷ l) (entities_more (at + units_by x.bounds) ds d ∙ ap (λ n. entities_from (at + units_by x.bounds) ds ++ entity_at n d ∷ []) e)
+    let e : at + storage_units_by x.bounds + total_units ds ≡ at + (storage_units_by x.bounds + total_units ds) = omega arith in
+    ap (λ l. entity_at at x ∷ l) (entities_more (at + storage_units_by x.bounds) ds d ∙ ap (λ n. entities_from (at + storage_units_by x.bounds) ds ++ entity_at n d ∷ []) e)
 
-regions_more : (at : ℕ) (ds : List Declarator) (d : Declarator) → regions_from at (ds ++ d ∷ []) ≡ regions_from at ds ++ record { start = at + total_units ds; len = units_by d.bounds } ∷ []
-regions_more at [] d = let e : at ≡ at + 0 = omega arith in ap (λ n. record { start = n; len = units_by d.bounds } ∷ []) e
+regions_more : (at : ℕ) (ds : List Declarator) (d : Declarator) → regions_from at (ds ++ d ∷ []) ≡ regions_from at ds ++ record { start = at + total_units ds; len = storage_units_by d.bounds } ∷ []
+regions_more at [] d = let e : at ≡ at + 0 = omega arith in ap (λ n. record { start = n; len = storage_units_by d.bounds } ∷ []) e
 regions_more at (x ∷ ds) d =
-    let e : at + units_by x.bounds + total_units ds ≡ at + (units_by x.bounds + total_units ds) = omega arith in
-    ap (λ l. record { start = at; len = units_by x.bounds } ∷ l) (regions_more (at + units_by x.bounds) ds d ∙ ap (λ n. regions_from (at + units_by x.bounds) ds ++ record { start = n; len = units_by d.bounds } ∷ []) e)
+    let e : at + storage_units_by x.bounds + total_units ds ≡ at + (storage_units_by x.bounds + total_units ds) = omega arith in
+    ap (λ l. record { start = at; len = storage_units_by x.bounds } ∷ l) (regions_more (at + storage_units_by x.bounds) ds d ∙ ap (λ n. regions_from (at + storage_units_by x.bounds) ds ++ record { start = n; len = storage_units_by d.bounds } ∷ []) e)
 
 -- the entity of a name has the bounds of its first appearance
 pub bounds_found : (n : List ℕ) (at : ℕ) (ds : List Declarator) → option_map (λ e. e.bounds) (entity_in (entities_from at ds) 0 n) ≡ option_map (λ d. d.bounds) (find (is_of n) ds)
 bounds_found n at [] = refl
-bounds_found n at (x ∷ ds) = by (is_of n x) (bounds_found n (at + units_by x.bounds) ds)
+bounds_found n at (x ∷ ds) = by (is_of n x) (bounds_found n (at + storage_units_by x.bounds) ds)
   where
-    by : (p : Bool) → option_map (λ e. e.bounds) (entity_in (entities_from (at + units_by x.bounds) ds) 0 n) ≡ option_map (λ d. d.bounds) (find (is_of n) ds)
-        → option_map (λ e. e.bounds) (if p then Some (entity_at at x) else entity_in (entities_from (at + units_by x.bounds) ds) 0 n) ≡ option_map (λ d. d.bounds) (if p then Some x else find (is_of n) ds)
+    by : (p : Bool) → option_map (λ e. e.bounds) (entity_in (entities_from (at + storage_units_by x.bounds) ds) 0 n) ≡ option_map (λ d. d.bounds) (find (is_of n) ds)
+        → option_map (λ e. e.bounds) (if p then Some (entity_at at x) else entity_in (entities_from (at + storage_units_by x.bounds) ds) 0 n) ≡ option_map (λ d. d.bounds) (if p then Some x else find (is_of n) ds)
     by true e = refl
     by false e = e
 
@@ -131,9 +131,9 @@ behind_is : (programs : List (List ℕ)) (names : List Declarator) (d : Declarat
 behind_is programs names d =
     let z : 0 + total_units names ≡ total_units names = omega arith in
     let e : entities_from 0 names ++ entity_at (total_units names) d ∷ [] ≡ entities_from 0 (names ++ d ∷ []) = ap (λ n. entities_from 0 names ++ entity_at n d ∷ []) (sym z) ∙ sym (entities_more 0 names d) in
-    let r : regions_from 0 names ++ record { start = total_units names; len = units_by d.bounds } ∷ [] ≡ regions_from 0 (names ++ d ∷ []) = ap (λ n. regions_from 0 names ++ record { start = n; len = units_by d.bounds } ∷ []) (sym z) ∙ sym (regions_more 0 names d) in
+    let r : regions_from 0 names ++ record { start = total_units names; len = storage_units_by d.bounds } ∷ [] ≡ regions_from 0 (names ++ d ∷ []) = ap (λ n. regions_from 0 names ++ record { start = n; len = storage_units_by d.bounds } ∷ []) (sym z) ∙ sym (regions_more 0 names d) in
     λ i. record { entities = e i; regions = r i; total = sym (total_more names d) i; programs = programs }
 
 pub placed_is : (programs : List (List ℕ)) (names : List Declarator) (d : Declarator)
-    → placed (table_of programs names) d ≡ (if nat_le 1 (units_by d.bounds) && nat_le (total_units names + units_by d.bounds) storage_limit then Some (table_of programs (names ++ d ∷ [])) else None)
-placed_is programs names d = λ i. if nat_le 1 (units_by d.bounds) && nat_le (total_units names + units_by d.bounds) storage_limit then Some (behind_is programs names d i) else None
+    → placed (table_of programs names) d ≡ (if nat_le 1 (storage_units_by d.bounds) && nat_le (total_units names + storage_units_by d.bounds) storage_limit then Some (table_of programs (names ++ d ∷ [])) else None)
+placed_is programs names d = λ i. if nat_le 1 (storage_units_by d.bounds) && nat_le (total_units names + storage_units_by d.bounds) storage_limit then Some (behind_is programs names d i) else None

@@ -3,7 +3,7 @@ pub mod Firsts
 pub mod Lists
 pub mod Passes
 pub mod Resolves
-pub mod Running
+pub mod LoopsSoFar
 pub mod Satisfies
 pub mod Standing
 pub mod Statements

@@ -18,7 +18,7 @@ use Rattle.f77_subset.specs.Storage.{layout_of}
 use Rattle.f77_subset.specs.Subset.{keeps, first_break, listing_of, statements_of, unless_refused, subset_of}
 use Rattle.f77_subset.specs.Table.{admitted, laid}
 use Rattle.f77_subset.proofs.Admits.{Where}
-use Rattle.f77_subset.proofs.Running.{Runs, runs_more, breaks_is, none_runs}
+use Rattle.f77_subset.proofs.LoopsSoFar.{Runs, runs_more, breaks_is, none_runs}
 use Rattle.f77_subset.proofs.Standing.{table_after, Kept, none_kept, names_kept, kept_more}
 use Rattle.f77_subset.proofs.Statements.{admits}
 

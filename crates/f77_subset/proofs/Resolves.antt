@@ -18,15 +18,15 @@ use Rattle.f77_ast.specs.declared.stmt.Item.{Item, Plain}
 use Rattle.f77_ast.specs.declared.stmt.LoopControl.{LoopControl}
 use Rattle.f77_ast.specs.declared.stmt.Stmt.{Stmt, Assign, Do, Print}
 use Rattle.f77_meaning.specs.Arrays.{if_array, array_named, array_of_ref, array_step, array_part, array_ref}
-use Rattle.f77_meaning.specs.Sound.{resolves, ref_resolves, resolves_step, resolves_part, resolves_ref, resolves_to, items_resolve, step_resolves, control_resolves, statement_resolves}
+use Rattle.f77_meaning.specs.Resolves.{resolves, ref_resolves, resolves_step, resolves_part, resolves_ref, resolves_to, items_resolve, increment_resolves, control_resolves, statement_resolves}
 use Rattle.f77_meaning.specs.Storage.{is_scalar, is_vector}
-use Rattle.f77_subset.specs.declared.names.Mention.{Mention}
-use Rattle.f77_subset.specs.declared.names.Standing.{Standing}
-use Rattle.f77_subset.specs.declared.names.Standing.TheVariants.{Variable, Element, WholeItem}
+use Rattle.f77_subset.specs.declared.mention.Mention.{Mention}
+use Rattle.f77_subset.specs.declared.mention.Standing.{Standing}
+use Rattle.f77_subset.specs.declared.mention.Standing.TheVariants.{Variable, Element, WholeItem}
 use Rattle.f77_subset.specs.Built as built
-use Rattle.f77_subset.specs.Built.{is_sign, is_arithmetic, has_one_at_most, expr_is_built, ref_is_built, step_is_built, control_is_built, item_is_built, is_built}
+use Rattle.f77_subset.specs.Built.{is_sign, is_arithmetic, has_one_at_most, expr_is_built, ref_is_built, increment_is_built, control_is_built, item_is_built, is_built}
 use Rattle.f77_subset.specs.Names as name
-use Rattle.f77_subset.specs.Names.{names_in, names_in_reference, lone_name, name_alone, as_item, names_in_item, names_in_step, names_in_control, mentioned_in}
+use Rattle.f77_subset.specs.Names.{mentions_in, mentions_in_reference, ref_as_name, expr_as_name, as_item, mentions_in_item, mentions_in_increment, mentions_in_control, mentioned_in}
 
 -- whether what stands so names an entity
 abbrev pub good_by : Option Entity → Standing → Bool
@@ -47,15 +47,15 @@ module _ (layout : Layout) where
 
   -- where an expression is built, and all its names are good, it resolves
   abbrev Resolving : Expr → Type 0
-  Resolving a = expr_is_built a ≡ true → list_all good (names_in a) ≡ true → resolves layout 0 a ≡ true
+  Resolving a = expr_is_built a ≡ true → list_all good (mentions_in a) ≡ true → resolves layout 0 a ≡ true
 
   abbrev RefResolving : Ref → Type 0
-  RefResolving r = ref_is_built r ≡ true → list_all good (names_in_reference r) ≡ true → ref_resolves layout 0 r ≡ true
+  RefResolving r = ref_is_built r ≡ true → list_all good (mentions_in_reference r) ≡ true → ref_resolves layout 0 r ≡ true
 
   is_built_as : (z : Expr-F Expr Part Ref) → expr_is_built (roll-Expr z) ≡ built.expr_step (map-Expr Expr Part Ref Bool (Unit {0}) Bool expr_is_built (λ part. tt) ref_is_built z)
   is_built_as z = fold-roll-Expr Bool (Unit {0}) Bool built.expr_step built.part_step built.ref_step z
 
-  names_as : (z : Expr-F Expr Part Ref) → names_in (roll-Expr z) ≡ name.expr_step (map-Expr Expr Part Ref (List Mention) (Unit {0}) (List Mention) names_in (λ part. tt) names_in_reference z)
+  names_as : (z : Expr-F Expr Part Ref) → mentions_in (roll-Expr z) ≡ name.expr_step (map-Expr Expr Part Ref (List Mention) (Unit {0}) (List Mention) mentions_in (λ part. tt) mentions_in_reference z)
   names_as z = fold-roll-Expr (List Mention) (Unit {0}) (List Mention) name.expr_step name.part_step name.ref_step z
 
   resolves_as : (z : Expr-F Expr Part Ref) → resolves layout 0 (roll-Expr z) ≡ resolves_step (map-Expr Expr Part Ref Bool (Unit {0}) Bool (resolves layout 0) (λ part. tt) (ref_resolves layout 0) z)
@@ -76,7 +76,7 @@ module _ (layout : Layout) where
     expr_by (layer.Binary op a c) b g =
         let h = and_parts (is_arithmetic op) (expr_is_built (tree a) && expr_is_built (tree c)) (sym (is_built_as (Layer (layer.Binary op a c))) ∙ b) in
         let k = and_parts (expr_is_built (tree a)) (expr_is_built (tree c)) h.1 in
-        let n = both (names_in (tree a)) (names_in (tree c)) (ap (list_all good) (sym (names_as (Layer (layer.Binary op a c)))) ∙ g) in
+        let n = both (mentions_in (tree a)) (mentions_in (tree c)) (ap (list_all good) (sym (names_as (Layer (layer.Binary op a c)))) ∙ g) in
         resolves_as (Layer (layer.Binary op a c)) ∙ and_from (resolves layout 0 (tree a)) (resolves layout 0 (tree c)) (trees a k.0 n.0) (trees c k.1 n.1)
     expr_by (layer.Paren a) b g = resolves_as (Layer (layer.Paren a)) ∙ trees a (sym (is_built_as (Layer (layer.Paren a))) ∙ b) (ap (list_all good) (sym (names_as (Layer (layer.Paren a)))) ∙ g)
 
@@ -103,10 +103,10 @@ module _ (layout : Layout) where
         cc
     ref_by n (Some (a ∷ [])) None b g =
         let k : expr_is_built (tree a) ≡ true = sym (fold-roll-Ref Bool (Unit {0}) Bool built.expr_step built.part_step built.ref_step (RefLayer (record { name = n; args = Some (a ∷ []); part = None }))) ∙ b in
-        let h = and_parts (good (record { name = n; standing = Element })) (list_all good (names_in (tree a) ++ []))
+        let h = and_parts (good (record { name = n; standing = Element })) (list_all good (mentions_in (tree a) ++ []))
         (ap (list_all good) (sym (fold-roll-Ref (List Mention) (Unit {0}) (List Mention) name.expr_step name.part_step name.ref_step (RefLayer (record { name = n; args = Some (a ∷ []); part = None })))) ∙ g) in
         fold-roll-Ref Bool (Unit {0}) Bool resolves_step resolves_part (resolves_ref layout 0) (RefLayer (record { name = n; args = Some (a ∷ []); part = None }))
-        ∙ vector_by (entity_in layout.entities 0 n) (resolves layout 0 (tree a)) h.0 (trees a k (ap (list_all good) (sym (append-nil (names_in (tree a)))) ∙ h.1))
+        ∙ vector_by (entity_in layout.entities 0 n) (resolves layout 0 (tree a)) h.0 (trees a k (ap (list_all good) (sym (append-nil (mentions_in (tree a)))) ∙ h.1))
     ref_by n (Some (a ∷ c ∷ more)) None b g =
         let h : false ≡ true = sym (fold-roll-Ref Bool (Unit {0}) Bool built.expr_step built.part_step built.ref_step (RefLayer (record { name = n; args = Some (a ∷ c ∷ more); part = None }))) ∙ b in
         cc
@@ -139,19 +139,19 @@ module _ (layout : Layout) where
   Lone (Some n) resolved array = (resolved ≡ resolves_to (entity_in layout.entities 0 n) None) × (array ≡ if_array (entity_in layout.entities 0 n))
 
   abbrev IsLone : Expr → Type 0
-  IsLone a = Lone (name_alone a) (resolves layout 0 a) (array_named layout 0 a)
+  IsLone a = Lone (expr_as_name a) (resolves layout 0 a) (array_named layout 0 a)
 
   abbrev IsLoneRef : Ref → Type 0
-  IsLoneRef r = Lone (lone_name r) (ref_resolves layout 0 r) (array_of_ref layout 0 r)
+  IsLoneRef r = Lone (ref_as_name r) (ref_resolves layout 0 r) (array_of_ref layout 0 r)
 
-  alone_as : (z : Expr-F Expr Part Ref) → name_alone (roll-Expr z) ≡ name.alone_step (map-Expr Expr Part Ref (Option (List ℕ)) (Unit {0}) (Option (List ℕ)) name_alone (λ part. tt) lone_name z)
+  alone_as : (z : Expr-F Expr Part Ref) → expr_as_name (roll-Expr z) ≡ name.alone_step (map-Expr Expr Part Ref (Option (List ℕ)) (Unit {0}) (Option (List ℕ)) expr_as_name (λ part. tt) ref_as_name z)
   alone_as z = fold-roll-Expr (Option (List ℕ)) (Unit {0}) (Option (List ℕ)) name.alone_step name.alone_part name.alone_ref z
 
   array_as : (z : Expr-F Expr Part Ref) → array_named layout 0 (roll-Expr z) ≡ array_step (map-Expr Expr Part Ref (Option Entity) (Unit {0}) (Option Entity) (array_named layout 0) (λ part. tt) (array_of_ref layout 0) z)
   array_as z = fold-roll-Expr (Option Entity) (Unit {0}) (Option Entity) array_step array_part (array_ref layout 0) z
 
   module _ {A B C : Type 0} (tree : A → Expr) (part : B → Part) (ref : C → Ref) (refs : (x : C) → IsLoneRef (ref x)) where
-    no_name : (y : Expr-F A B C) → name_alone (roll-Expr (map-Expr A B C Expr Part Ref tree part ref y)) ≡ None → IsLone (roll-Expr (map-Expr A B C Expr Part Ref tree part ref y))
+    no_name : (y : Expr-F A B C) → expr_as_name (roll-Expr (map-Expr A B C Expr Part Ref tree part ref y)) ≡ None → IsLone (roll-Expr (map-Expr A B C Expr Part Ref tree part ref y))
     no_name y e = subst (λ o. Lone o (resolves layout 0 (roll-Expr (map-Expr A B C Expr Part Ref tree part ref y))) (array_named layout 0 (roll-Expr (map-Expr A B C Expr Part Ref tree part ref y)))) (sym e) tt
 
     lone_by : (y : Expr-F A B C) → IsLone (roll-Expr (map-Expr A B C Expr Part Ref tree part ref y))
@@ -160,8 +160,8 @@ module _ (layout : Layout) where
     lone_by (layer.Chars text) = no_name (layer.Chars text) (alone_as (layer.Chars text))
     lone_by (layer.Ref r) =
         subst (λ a. Lone a (resolves layout 0 (roll-Expr (layer.Ref (ref r)))) (array_named layout 0 (roll-Expr (layer.Ref (ref r))))) (sym (alone_as (layer.Ref (ref r))))
-        (subst (λ b. Lone (lone_name (ref r)) b (array_named layout 0 (roll-Expr (layer.Ref (ref r))))) (sym (resolves_as (layer.Ref (ref r))))
-        (subst (Lone (lone_name (ref r)) (ref_resolves layout 0 (ref r))) (sym (array_as (layer.Ref (ref r)))) (refs r)))
+        (subst (λ b. Lone (ref_as_name (ref r)) b (array_named layout 0 (roll-Expr (layer.Ref (ref r))))) (sym (resolves_as (layer.Ref (ref r))))
+        (subst (Lone (ref_as_name (ref r)) (ref_resolves layout 0 (ref r))) (sym (array_as (layer.Ref (ref r)))) (refs r)))
     lone_by (layer.Unary op a) = no_name (layer.Unary op a) (alone_as (layer.Unary op (tree a)))
     lone_by (layer.Binary op a c) = no_name (layer.Binary op a c) (alone_as (layer.Binary op (tree a) (tree c)))
     lone_by (layer.Paren a) = no_name (layer.Paren a) (alone_as (layer.Paren (tree a)))
@@ -204,7 +204,7 @@ module _ (layout : Layout) where
       by false true e = refl
       by false false e = cc
 
-  value_resolves : (a : Expr) (o : Option (List ℕ)) → Lone o (resolves layout 0 a) (array_named layout 0 a) → expr_is_built a ≡ true → list_all good (as_item o (names_in a)) ≡ true → (resolves layout 0 a || is_some (array_named layout 0 a)) ≡ true
+  value_resolves : (a : Expr) (o : Option (List ℕ)) → Lone o (resolves layout 0 a) (array_named layout 0 a) → expr_is_built a ≡ true → list_all good (as_item o (mentions_in a)) ≡ true → (resolves layout 0 a || is_some (array_named layout 0 a)) ≡ true
   value_resolves a None lone b g = or_left (resolves layout 0 a) (is_some (array_named layout 0 a)) (tree_resolves a b g)
   value_resolves a (Some n) lone b g =
       let h = and_parts (good (record { name = n; standing = WholeItem })) true g in
@@ -212,15 +212,15 @@ module _ (layout : Layout) where
 
   -- ---- statements
 
-  items_by : (items : List Item) → list_all item_is_built items ≡ true → list_all good (flat_map names_in_item items) ≡ true → items_resolve layout 0 items ≡ true
+  items_by : (items : List Item) → list_all item_is_built items ≡ true → list_all good (flat_map mentions_in_item items) ≡ true → items_resolve layout 0 items ≡ true
   items_by [] b g = refl
   items_by (Plain a ∷ items) b g =
       let h = and_parts (expr_is_built a) (list_all item_is_built items) b in
-      let n = both (as_item (name_alone a) (names_in a)) (flat_map names_in_item items) g in
-      and_from (resolves layout 0 a || is_some (array_named layout 0 a)) (items_resolve layout 0 items) (value_resolves a (name_alone a) (is_lone a) h.0 n.0) (items_by items h.1 n.1)
+      let n = both (as_item (expr_as_name a) (mentions_in a)) (flat_map mentions_in_item items) g in
+      and_from (resolves layout 0 a || is_some (array_named layout 0 a)) (items_resolve layout 0 items) (value_resolves a (expr_as_name a) (is_lone a) h.0 n.0) (items_by items h.1 n.1)
   items_by (_ ∷ items) b g = cc
 
-  step_by : (o : Option Expr) → step_is_built o ≡ true → list_all good (names_in_step o) ≡ true → step_resolves layout 0 o ≡ true
+  step_by : (o : Option Expr) → increment_is_built o ≡ true → list_all good (mentions_in_increment o) ≡ true → increment_resolves layout 0 o ≡ true
   step_by None b g = refl
   step_by (Some a) b g = tree_resolves a b g
 
@@ -228,21 +228,21 @@ module _ (layout : Layout) where
   plain_by None h = cc
   plain_by (Some entity) h = h
 
-  control_by : (control : LoopControl) → control_is_built control ≡ true → list_all good (names_in_control control) ≡ true → control_resolves layout 0 control ≡ true
+  control_by : (control : LoopControl) → control_is_built control ≡ true → list_all good (mentions_in_control control) ≡ true → control_resolves layout 0 control ≡ true
   control_by control b g =
-      let h = and_parts (expr_is_built control.first) (expr_is_built control.last && step_is_built control.step) b in
-      let k = and_parts (expr_is_built control.last) (step_is_built control.step) h.1 in
-      let p = and_parts (good (record { name = control.variable; standing = Variable })) (list_all good (names_in control.first ++ (names_in control.last ++ names_in_step control.step))) g in
-      let q = both (names_in control.first) (names_in control.last ++ names_in_step control.step) p.1 in
-      let r = both (names_in control.last) (names_in_step control.step) q.1 in
-      and_from (resolves_to (entity_in layout.entities 0 control.variable) None) (resolves layout 0 control.first && (resolves layout 0 control.last && step_resolves layout 0 control.step)) (plain_by (entity_in layout.entities 0 control.variable) p.0)
-      (and_from (resolves layout 0 control.first) (resolves layout 0 control.last && step_resolves layout 0 control.step) (tree_resolves control.first h.0 q.0)
-      (and_from (resolves layout 0 control.last) (step_resolves layout 0 control.step) (tree_resolves control.last k.0 r.0) (step_by control.step k.1 r.1)))
+      let h = and_parts (expr_is_built control.first) (expr_is_built control.last && increment_is_built control.increment) b in
+      let k = and_parts (expr_is_built control.last) (increment_is_built control.increment) h.1 in
+      let p = and_parts (good (record { name = control.variable; standing = Variable })) (list_all good (mentions_in control.first ++ (mentions_in control.last ++ mentions_in_increment control.increment))) g in
+      let q = both (mentions_in control.first) (mentions_in control.last ++ mentions_in_increment control.increment) p.1 in
+      let r = both (mentions_in control.last) (mentions_in_increment control.increment) q.1 in
+      and_from (resolves_to (entity_in layout.entities 0 control.variable) None) (resolves layout 0 control.first && (resolves layout 0 control.last && increment_resolves layout 0 control.increment)) (plain_by (entity_in layout.entities 0 control.variable) p.0)
+      (and_from (resolves layout 0 control.first) (resolves layout 0 control.last && increment_resolves layout 0 control.increment) (tree_resolves control.first h.0 q.0)
+      (and_from (resolves layout 0 control.last) (increment_resolves layout 0 control.increment) (tree_resolves control.last k.0 r.0) (step_by control.increment k.1 r.1)))
 
   pub statement_by : (s : Stmt) → is_built s ≡ true → list_all good (mentioned_in s) ≡ true → statement_resolves layout 0 s ≡ true
   statement_by (Assign target value) b g =
       let h = and_parts (ref_is_built target) (expr_is_built value) b in
-      let n = both (names_in_reference target) (names_in value) g in
+      let n = both (mentions_in_reference target) (mentions_in value) g in
       and_from (ref_resolves layout 0 target) (resolves layout 0 value) (reference_resolves target h.0 n.0) (tree_resolves value h.1 n.1)
   statement_by (Do terminal control) b g = control_by control b g
   statement_by (Print items) b g = items_by items b g

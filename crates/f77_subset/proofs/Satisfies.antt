@@ -17,11 +17,11 @@ use Rattle.f77_ast.specs.declared.refusal.Refusal.{Refusal}
 use Rattle.f77_ast.specs.declared.specification.Bound.{Bound}
 use Rattle.f77_ast.specs.declared.specification.Declarator.{Declarator}
 use Rattle.f77_ast.specs.declared.stmt.Stmt.{Stmt, Declare}
-use Rattle.f77_meaning.specs.Sound.{statement_resolves}
-use Rattle.f77_meaning.specs.Storage.{units_by, is_scalar, is_vector, units_of_all, region_of, LiesIn, IsStorage, IsLaidOut}
-use Rattle.f77_subset.specs.declared.names.Mention.{Mention}
-use Rattle.f77_subset.specs.declared.names.Standing.{Standing}
-use Rattle.f77_subset.specs.declared.names.Standing.TheVariants.{Variable, Element, WholeItem}
+use Rattle.f77_meaning.specs.Resolves.{statement_resolves}
+use Rattle.f77_meaning.specs.Storage.{storage_units_by, is_scalar, is_vector, storage_units_of_all, region_of, LiesIn, IsStorage, IsLaidOut}
+use Rattle.f77_subset.specs.declared.mention.Mention.{Mention}
+use Rattle.f77_subset.specs.declared.mention.Standing.{Standing}
+use Rattle.f77_subset.specs.declared.mention.Standing.TheVariants.{Variable, Element, WholeItem}
 use Rattle.f77_subset.specs.Built.{is_built}
 use Rattle.f77_subset.specs.Names.{mentioned_in, declared_in, is_of, undeclared, firsts, appearing_in, names_of, declarations}
 use Rattle.f77_subset.specs.Rules.{storage_limit, are_bounds, is_array, may_stand, is_integer, is_no_program, may_declare, may_mention, names_keep, storage_keeps, variables_keep}
@@ -38,7 +38,7 @@ use Rattle.f77_subset.proofs.Standing.{appearing, appearing_more, declarations_m
 lie_from : (total at : ℕ) (ds : List Declarator) → at + total_units ds ≤ total → All (LiesIn total) (entities_from at ds)
 lie_from total at [] le = λ k d lt. absurd (omega (arith, lt))
 lie_from total at (d ∷ ds) le =
-    All-cons (LiesIn total) (entity_at at d) (entities_from (at + units_by d.bounds) ds) (record { stored = refl; within = omega arith }) (lie_from total (at + units_by d.bounds) ds (omega arith))
+    All-cons (LiesIn total) (entity_at at d) (entities_from (at + storage_units_by d.bounds) ds) (record { stored = refl; within = omega arith }) (lie_from total (at + storage_units_by d.bounds) ds (omega arith))
 
 is_storage : (ds : List Declarator) → nat_le (total_units ds) storage_limit ≡ true → IsStorage (layout_of ds)
 is_storage ds fits =
@@ -50,23 +50,23 @@ is_storage ds fits =
       small = omega arith;
     }
 
-placed_from : (at : ℕ) (ds : List Declarator) (k : ℕ) (entity : Entity) → slice_get (entities_from at ds) k ≡ Some entity → entity.place ≡ Stored (at + units_of_all (take k (entities_from at ds)))
+placed_from : (at : ℕ) (ds : List Declarator) (k : ℕ) (entity : Entity) → slice_get (entities_from at ds) k ≡ Some entity → entity.place ≡ Stored (at + storage_units_of_all (take k (entities_from at ds)))
 placed_from at [] k entity e = cc
 placed_from at (d ∷ ds) zero entity e =
     let same : entity_at at d ≡ entity = cc in
     let z : at ≡ at + 0 = omega arith in
     ap (λ e. e.place) (sym same) ∙ ap Stored z
 placed_from at (d ∷ ds) (suc k) entity e =
-    let z : at + units_by d.bounds + units_of_all (take k (entities_from (at + units_by d.bounds) ds)) ≡ at + units_of_all (entity_at at d ∷ take k (entities_from (at + units_by d.bounds) ds)) = omega arith in
-    placed_from (at + units_by d.bounds) ds k entity e ∙ ap Stored z
+    let z : at + storage_units_by d.bounds + storage_units_of_all (take k (entities_from (at + storage_units_by d.bounds) ds)) ≡ at + storage_units_of_all (entity_at at d ∷ take k (entities_from (at + storage_units_by d.bounds) ds)) = omega arith in
+    placed_from (at + storage_units_by d.bounds) ds k entity e ∙ ap Stored z
 
 regions_are : (at : ℕ) (ds : List Declarator) → regions_from at ds ≡ map region_of (entities_from at ds)
 regions_are at [] = refl
-regions_are at (d ∷ ds) = ap (λ l. record { start = at; len = units_by d.bounds } ∷ l) (regions_are (at + units_by d.bounds) ds)
+regions_are at (d ∷ ds) = ap (λ l. record { start = at; len = storage_units_by d.bounds } ∷ l) (regions_are (at + storage_units_by d.bounds) ds)
 
-total_is : (at : ℕ) (ds : List Declarator) → total_units ds ≡ units_of_all (entities_from at ds)
+total_is : (at : ℕ) (ds : List Declarator) → total_units ds ≡ storage_units_of_all (entities_from at ds)
 total_is at [] = refl
-total_is at (d ∷ ds) = let t = total_is (at + units_by d.bounds) ds in omega arith
+total_is at (d ∷ ds) = let t = total_is (at + storage_units_by d.bounds) ds in omega arith
 
 repeated : {A : Type 0} (n : ℕ) (a : A) → replicate n a ≡ repeat n (a ∷ [])
 repeated zero a = refl
@@ -84,7 +84,7 @@ laid_out ds = record {
 
 -- a name has an element
 abbrev Has : Declarator → Bool
-Has d = nat_le 1 (units_by d.bounds)
+Has d = nat_le 1 (storage_units_by d.bounds)
 
 -- all names in some statements have an element
 abbrev Sized : List Stmt → Type 0
@@ -108,7 +108,7 @@ sized_more ss s sized names =
     (list_all-append Has (declared_in s) (map undeclared (mentioned_in s)) ∙ and_from (list_all Has (declared_in s)) (list_all Has (map undeclared (mentioned_in s))) (may_has ss (declared_in s) names.declared) (undeclared_have (mentioned_in s)))
 
 -- bounds that leave an element are those of a variable, or of an array of one dimension
-vector_is : (bounds : List Bound) → nat_le 1 (units_by bounds) ≡ true → is_vector bounds ≡ are_bounds bounds
+vector_is : (bounds : List Bound) → nat_le 1 (storage_units_by bounds) ≡ true → is_vector bounds ≡ are_bounds bounds
 vector_is [] e = refl
 vector_is (b ∷ []) e = refl
 vector_is (b ∷ c ∷ bounds) e = cc
@@ -118,7 +118,7 @@ scalar_is [] = refl
 scalar_is (b ∷ bounds) = refl
 
 -- an entity with these bounds is named well
-well_named : (entity : Entity) (bounds : List Bound) (standing : Standing) → entity.bounds ≡ bounds → nat_le 1 (units_by bounds) ≡ true → may_stand (are_bounds bounds) standing ≡ true → good_by (Some entity) standing ≡ true
+well_named : (entity : Entity) (bounds : List Bound) (standing : Standing) → entity.bounds ≡ bounds → nat_le 1 (storage_units_by bounds) ≡ true → may_stand (are_bounds bounds) standing ≡ true → good_by (Some entity) standing ≡ true
 well_named entity bounds Variable same has may = ap is_scalar same ∙ scalar_is bounds ∙ may
 well_named entity bounds Element same has may = ap is_vector same ∙ vector_is bounds has ∙ may
 well_named entity bounds WholeItem same has may = (λ i. is_scalar (same i) || is_vector (same i)) ∙ (λ i. scalar_is bounds i || vector_is bounds has i) ∙ by (are_bounds bounds)

@@ -11,8 +11,8 @@ use Rattle.f77_ast.specs.Entity.{entity_in}
 use Rattle.f77_ast.specs.declared.program.Entity.{Entity}
 use Rattle.f77_ast.specs.declared.specification.Declarator.{Declarator}
 use Rattle.f77_ast.specs.declared.stmt.Stmt.{Stmt, Program}
-use Rattle.f77_meaning.specs.Storage.{units_by}
-use Rattle.f77_subset.specs.declared.names.Mention.{Mention}
+use Rattle.f77_meaning.specs.Storage.{storage_units_by}
+use Rattle.f77_subset.specs.declared.mention.Mention.{Mention}
 use Rattle.f77_subset.specs.declared.table.Table.{Table}
 use Rattle.f77_subset.specs.Names.{mentioned_in, declared_in, is_program_of, is_of, undeclared, appearing_in, names_of, declarations}
 use Rattle.f77_subset.specs.Rules.{begins_integer, are_bounds, is_array_by, is_array, may_stand, is_integer, is_no_program, may_declare, may_mention, declares_once, names_keep}
@@ -157,7 +157,7 @@ found_itself p (y ∷ xs) x e = by (p y) refl e (found_itself p xs x)
 -- a name that is declared behind statements doesn't stand in them
 not_there : (ss : List Stmt) (n : List ℕ) (d : Declarator) → is_of n d ≡ true → may_declare ss d ≡ true → list_any (is_of n) (appearing ss) ≡ false
 not_there ss n d same may =
-    let a = and_parts (not (list_any (is_of d.name) (names_of ss)) && is_no_program ss d.name) (nat_le 1 (units_by d.bounds)) may in
+    let a = and_parts (not (list_any (is_of d.name) (names_of ss)) && is_no_program ss d.name) (nat_le 1 (storage_units_by d.bounds)) may in
     let b = and_parts (not (list_any (is_of d.name) (names_of ss))) (is_no_program ss d.name) a.0 in
     let k : n ≡ d.name = same_name n d.name same in
     ap (λ x. list_any (is_of x) (appearing ss)) k ∙ sym (any_firsts d.name (appearing ss)) ∙ by (list_any (is_of d.name) (names_of ss)) b.0

@@ -5,7 +5,7 @@ use Rattle.std.proofs.lemmas.List.{append-nil}
 use Rattle.f77_ast.specs.declared.specification.Declarator.{Declarator}
 use Rattle.f77_ast.specs.declared.specification.TypedDeclarator.{TypedDeclarator}
 use Rattle.f77_ast.specs.declared.stmt.Stmt.{Stmt, Program, Declare}
-use Rattle.f77_meaning.specs.Storage.{units_by}
+use Rattle.f77_meaning.specs.Storage.{storage_units_by}
 use Rattle.f77_subset.specs.declared.table.Table.{Table}
 use Rattle.f77_subset.specs.Names.{mentioned_in, declared_in, undeclared, firsts}
 use Rattle.f77_subset.specs.Rules.{may_declare, may_mention, declares_once, names_keep, storage_keeps}
@@ -25,7 +25,7 @@ By once declared mentioned programs xs = Where ((once && declared && mentioned) 
 -- ---- declarations
 
 fine_is : (ss : List Stmt) (d : Declarator) → fine (programs_of ss) (appearing ss) d ≡ may_declare ss d
-fine_is ss d = λ i. not (sym (any_firsts d.name (appearing ss)) i) && not (program_is d.name ss i) && nat_le 1 (units_by d.bounds)
+fine_is ss d = λ i. not (sym (any_firsts d.name (appearing ss)) i) && not (program_is d.name ss i) && nat_le 1 (storage_units_by d.bounds)
 
 all_fine : (ss : List Stmt) (ds : List Declarator) → list_all (fine (programs_of ss) (appearing ss)) ds ≡ list_all (may_declare ss) ds
 all_fine ss [] = refl

@@ -64,13 +64,13 @@ abbrev pub ref_is_built : Ref → Bool
 ref_is_built = fold-Ref Bool (Unit {0}) Bool expr_step part_step ref_step
 
 -- whether an expression that may be left out is
-abbrev pub step_is_built : Option Expr → Bool
-step_is_built None = true
-step_is_built (Some step) = expr_is_built step
+abbrev pub increment_is_built : Option Expr → Bool
+increment_is_built None = true
+increment_is_built (Some increment) = expr_is_built increment
 
 -- whether the control of a DO statement is
 abbrev pub control_is_built : LoopControl → Bool
-control_is_built control = expr_is_built control.first && (expr_is_built control.last && step_is_built control.step)
+control_is_built control = expr_is_built control.first && (expr_is_built control.last && increment_is_built control.increment)
 
 -- whether an item of PRINT is: no implied DO
 abbrev pub item_is_built : Item → Bool

@@ -3,7 +3,7 @@ use Rattle.std.specs.Prelude.{◌≡◌, List, All, IsTrue, Ok}
 use Rattle.f77_ast.specs.declared.program.Layout.{Layout}
 use Rattle.f77_ast.specs.declared.program.Loop.{Loop}
 use Rattle.f77_ast.specs.declared.program.Unit.{Unit as ProgramUnit}
-use Rattle.f77_meaning.specs.Sound.{statement_resolves}
+use Rattle.f77_meaning.specs.Resolves.{statement_resolves}
 use Rattle.f77_meaning.specs.Storage.{IsStorage, IsLaidOut}
 use Rattle.f77_subset.specs.Built.{is_built}
 use Rattle.f77_subset.specs.Subset.{listing_of, subset_of}
@@ -12,7 +12,7 @@ use Rattle.f77_subset.specs.Subset.{listing_of, subset_of}
 abbrev pub LayoutsAreStorage : Type 0
 LayoutsAreStorage = (loops : List Loop) (units : List ProgramUnit) (layout : Layout) → subset_of loops units ≡ Ok layout → IsStorage layout
 
--- each name stands where those before it end, and is a region of its own
+-- each name stands where those before it end, and is a region of its own, and every storage unit opens as 0
 abbrev pub LayoutsAreLaidOut : Type 0
 LayoutsAreLaidOut = (loops : List Loop) (units : List ProgramUnit) (layout : Layout) → subset_of loops units ≡ Ok layout → IsLaidOut layout
 

@@ -11,9 +11,9 @@ use Rattle.f77_ast.specs.declared.specification.Declarator.{Declarator}
 use Rattle.f77_ast.specs.declared.stmt.Item.{Item, Plain}
 use Rattle.f77_ast.specs.declared.stmt.LoopControl.{LoopControl}
 use Rattle.f77_ast.specs.declared.stmt.Stmt.{Stmt, Declare, Assign, Do, Print, Program}
-use Rattle.f77_subset.specs.declared.names.Mention.{Mention}
-use Rattle.f77_subset.specs.declared.names.Standing.{Standing}
-use Rattle.f77_subset.specs.declared.names.Standing.TheVariants.{Variable, Element, WholeItem}
+use Rattle.f77_subset.specs.declared.mention.Mention.{Mention}
+use Rattle.f77_subset.specs.declared.mention.Standing.{Standing}
+use Rattle.f77_subset.specs.declared.mention.Standing.TheVariants.{Variable, Element, WholeItem}
 
 -- the names in the subscripts of a reference
 abbrev pub in_subscripts : Option (List (List Mention)) → List Mention
@@ -41,12 +41,12 @@ abbrev pub ref_step : Ref-F (List Mention) (Unit {0}) (List Mention) → List Me
 ref_step ref = record { name = ref.name; standing = standing_by ref.args } ∷ in_subscripts ref.args
 
 -- the names in an expression, in the order of its text
-abbrev pub names_in : Expr → List Mention
-names_in = fold-Expr (List Mention) (Unit {0}) (List Mention) expr_step part_step ref_step
+abbrev pub mentions_in : Expr → List Mention
+mentions_in = fold-Expr (List Mention) (Unit {0}) (List Mention) expr_step part_step ref_step
 
 -- the names in a reference, in the order of its text
-abbrev pub names_in_reference : Ref → List Mention
-names_in_reference = fold-Ref (List Mention) (Unit {0}) (List Mention) expr_step part_step ref_step
+abbrev pub mentions_in_reference : Ref → List Mention
+mentions_in_reference = fold-Ref (List Mention) (Unit {0}) (List Mention) expr_step part_step ref_step
 
 -- the name that an expression is, where it is nothing but a name
 abbrev pub alone_step : Expr-F (Option (List ℕ)) (Unit {0}) (Option (List ℕ)) → Option (List ℕ)
@@ -65,36 +65,36 @@ abbrev pub alone_ref : Ref-F (Option (List ℕ)) (Unit {0}) (Option (List ℕ)) 
 alone_ref ref = unless_followed ref.name ref.args ref.part
 
 -- the name that a reference is
-abbrev pub lone_name : Ref → Option (List ℕ)
-lone_name = fold-Ref (Option (List ℕ)) (Unit {0}) (Option (List ℕ)) alone_step alone_part alone_ref
+abbrev pub ref_as_name : Ref → Option (List ℕ)
+ref_as_name = fold-Ref (Option (List ℕ)) (Unit {0}) (Option (List ℕ)) alone_step alone_part alone_ref
 
-abbrev pub name_alone : Expr → Option (List ℕ)
-name_alone = fold-Expr (Option (List ℕ)) (Unit {0}) (Option (List ℕ)) alone_step alone_part alone_ref
+abbrev pub expr_as_name : Expr → Option (List ℕ)
+expr_as_name = fold-Expr (Option (List ℕ)) (Unit {0}) (Option (List ℕ)) alone_step alone_part alone_ref
 
 -- the names in an item of PRINT: one that is the whole item may be an array's
 abbrev pub as_item : Option (List ℕ) → List Mention → List Mention
 as_item (Some name) names = record { name = name; standing = WholeItem } ∷ []
 as_item None names = names
 
-abbrev pub names_in_item : Item → List Mention
-names_in_item (Plain value) = as_item (name_alone value) (names_in value)
-names_in_item _ = []
+abbrev pub mentions_in_item : Item → List Mention
+mentions_in_item (Plain value) = as_item (expr_as_name value) (mentions_in value)
+mentions_in_item _ = []
 
 -- the names in a parameter of a DO statement that may be left out
-abbrev pub names_in_step : Option Expr → List Mention
-names_in_step None = []
-names_in_step (Some value) = names_in value
+abbrev pub mentions_in_increment : Option Expr → List Mention
+mentions_in_increment None = []
+mentions_in_increment (Some value) = mentions_in value
 
 -- the names in the control of a DO statement: its variable, and those in its parameters
-abbrev pub names_in_control : LoopControl → List Mention
-names_in_control control = record { name = control.variable; standing = Variable } ∷ (names_in control.first ++ (names_in control.last ++ names_in_step control.step))
+abbrev pub mentions_in_control : LoopControl → List Mention
+mentions_in_control control = record { name = control.variable; standing = Variable } ∷ (mentions_in control.first ++ (mentions_in control.last ++ mentions_in_increment control.increment))
 
 -- the names of variables and arrays that stand in a statement that declares nothing, in the order of its text: of those that
 -- are built an assignment, a DO statement or a PRINT has some
 abbrev pub mentioned_in : Stmt → List Mention
-mentioned_in (Assign target value) = names_in_reference target ++ names_in value
-mentioned_in (Do terminal control) = names_in_control control
-mentioned_in (Print items) = flat_map names_in_item items
+mentioned_in (Assign target value) = mentions_in_reference target ++ mentions_in value
+mentioned_in (Do terminal control) = mentions_in_control control
+mentioned_in (Print items) = flat_map mentions_in_item items
 mentioned_in _ = []
 
 -- the names, with their bounds, that INTEGER declares

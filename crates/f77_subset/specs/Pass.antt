@@ -6,7 +6,7 @@ use Rattle.f77_ast.specs.declared.program.Unit.{Unit as ProgramUnit}
 use Rattle.f77_ast.specs.declared.refusal.Refusal.{Refusal}
 use Rattle.f77_ast.specs.declared.stmt.Stmt.{Stmt, Do}
 use Rattle.f77_subset.specs.declared.pass.Pass.{Pass}
-use Rattle.f77_subset.specs.declared.pass.Running.{Running}
+use Rattle.f77_subset.specs.declared.pass.LoopsSoFar.{LoopsSoFar}
 use Rattle.f77_subset.specs.declared.table.Table.{Table}
 use Rattle.f77_subset.specs.Built.{is_built}
 use Rattle.f77_subset.specs.Ranges.{breaks, with_loop}
@@ -17,12 +17,12 @@ abbrev pub begun : Pass
 begun = record { table = table_of [] []; running = record { ranges = []; loops = 0 }; statements = 0 }
 
 -- a DO statement's variable, with the next loop, where there is one
-abbrev pub with_next : Option Loop → Running → (variable : List ℕ) → Running
+abbrev pub with_next : Option Loop → LoopsSoFar → (variable : List ℕ) → LoopsSoFar
 with_next None running variable = running
 with_next (Some loop) running variable = record { ranges = with_loop running.ranges variable loop.last; loops = running.loops + 1 }
 
 -- the DO variables behind a statement
-abbrev pub followed : List Loop → Running → Stmt → Running
+abbrev pub followed : List Loop → LoopsSoFar → Stmt → LoopsSoFar
 followed loops running (Do terminal control) = with_next (slice_get loops running.loops) running control.variable
 followed loops running _ = running
 

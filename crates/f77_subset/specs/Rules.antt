@@ -1,6 +1,6 @@
--- The rules on names, storage and DO variables, for one statement behind those before it: those that the standard has for
--- what is built so far, and a limit on storage, which is this project's own. When names and storage are whole, each gets a
--- refusal of its own.
+-- The rules on names, storage and DO variables, for one statement behind those before it: those that will have codes 30 to
+-- 45, for what is built so far, and a limit on storage, which is this project's own. When names and storage are whole, each
+-- gets a refusal of its own.
 use Rattle.std.specs.Prelude.{ℕ, Bool, true, false, not, ◌&&◌, ◌||◌, nat_le, nat_eq, List, [], ◌∷◌, find, Option, None, Some}
 use Rattle.std.specs.Cmp.Lexicographic.{pointwise}
 use Rattle.std.specs.List.{list_all, list_any, flat_map}
@@ -9,10 +9,10 @@ use Rattle.f77_ast.specs.declared.program.Loop.{Loop}
 use Rattle.f77_ast.specs.declared.specification.Bound.{Bound}
 use Rattle.f77_ast.specs.declared.specification.Declarator.{Declarator}
 use Rattle.f77_ast.specs.declared.stmt.Stmt.{Stmt, Assign, Do}
-use Rattle.f77_meaning.specs.Storage.{units_by}
-use Rattle.f77_subset.specs.declared.names.Mention.{Mention}
-use Rattle.f77_subset.specs.declared.names.Standing.{Standing}
-use Rattle.f77_subset.specs.declared.names.Standing.TheVariants.{Variable, Element, WholeItem}
+use Rattle.f77_meaning.specs.Storage.{storage_units_by}
+use Rattle.f77_subset.specs.declared.mention.Mention.{Mention}
+use Rattle.f77_subset.specs.declared.mention.Standing.{Standing}
+use Rattle.f77_subset.specs.declared.mention.Standing.TheVariants.{Variable, Element, WholeItem}
 use Rattle.f77_subset.specs.Names.{mentioned_in, declared_in, is_program_of, is_of, names_of, declarations}
 use Rattle.f77_subset.specs.Storage.{total_units}
 
@@ -61,7 +61,7 @@ declares_once (d ∷ ds) = not (list_any (λ later. is_of later.name d) ds) && d
 -- whether a name may be declared behind some statements: it stands nowhere in them and isn't the name of PROGRAM, and an
 -- array has one element at least
 abbrev pub may_declare : (before : List Stmt) → Declarator → Bool
-may_declare before d = not (list_any (is_of d.name) (names_of before)) && is_no_program before d.name && nat_le 1 (units_by d.bounds)
+may_declare before d = not (list_any (is_of d.name) (names_of before)) && is_no_program before d.name && nat_le 1 (storage_units_by d.bounds)
 
 -- whether a name may stand in a statement behind some others: it is INTEGER, isn't the name of PROGRAM, and stands as it is
 -- declared

@@ -9,10 +9,10 @@ use Rattle.f77_ast.specs.declared.program.Layout.{Layout}
 use Rattle.f77_ast.specs.declared.specification.Declarator.{Declarator}
 use Rattle.f77_ast.specs.declared.specification.TypedDeclarator.{TypedDeclarator}
 use Rattle.f77_ast.specs.declared.stmt.Stmt.{Stmt, Declare, Program}
-use Rattle.f77_meaning.specs.Storage.{units_by}
+use Rattle.f77_meaning.specs.Storage.{storage_units_by}
 use Rattle.f77_subset.specs.declared.broken.Broken.{Broken}
 use Rattle.f77_subset.specs.declared.broken.Broken.TheVariants.{Rule}
-use Rattle.f77_subset.specs.declared.names.Mention.{Mention}
+use Rattle.f77_subset.specs.declared.mention.Mention.{Mention}
 use Rattle.f77_subset.specs.declared.table.Table.{Table}
 use Rattle.f77_subset.specs.Names.{mentioned_in, undeclared}
 use Rattle.f77_subset.specs.Rules.{storage_limit, begins_integer, are_bounds, may_stand}
@@ -35,14 +35,14 @@ is_program t name = list_any (pointwise nat_eq name) t.programs
 abbrev pub behind : Table → Declarator → Table
 behind t d = record {
   entities = t.entities ++ entity_at t.total d ∷ [];
-  regions = t.regions ++ record { start = t.total; len = units_by d.bounds } ∷ [];
-  total = t.total + units_by d.bounds;
+  regions = t.regions ++ record { start = t.total; len = storage_units_by d.bounds } ∷ [];
+  total = t.total + storage_units_by d.bounds;
   programs = t.programs;
 }
 
 -- a name that is new takes its units behind the others, within the limit
 abbrev pub placed : Table → Declarator → Option Table
-placed t d = if nat_le 1 (units_by d.bounds) && nat_le (t.total + units_by d.bounds) storage_limit then Some (behind t d) else None
+placed t d = if nat_le 1 (storage_units_by d.bounds) && nat_le (t.total + storage_units_by d.bounds) storage_limit then Some (behind t d) else None
 
 -- a declaration: of a new name
 abbrev pub declared_by : Table → Declarator → Option Table
@@ -89,6 +89,6 @@ abbrev pub laid : Table → Layout
 laid t = record { regions = t.regions; entities = t.entities; total = t.total; first = replicate t.total (pos 0) }
 
 -- what a function that takes names ensures; nothing is said where memory fails
-abbrev pub Keeps : Option Table → Result (Unit {0}) Broken → Table → Type 0
-Keeps outcome (Ok done) new = outcome ≡ Some new
-Keeps outcome (Err e) new = e ≡ Rule → outcome ≡ None
+abbrev pub Updates : Option Table → Result (Unit {0}) Broken → Table → Type 0
+Updates outcome (Ok done) new = outcome ≡ Some new
+Updates outcome (Err e) new = e ≡ Rule → outcome ≡ None

@@ -34,7 +34,7 @@ fn is_arithmetic(operator: Op) -> bool
     }
 }
 
-/// Whether an expression is: numbers, references with one subscript at most, arithmetic operators and parentheses.
+/// Whether an expression is built: numbers, references with one subscript at most, arithmetic operators and parentheses.
 #[cycle(built)]
 fn expr_is_built(tree: &Expr) -> bool
     ensures { result ≡ spec.expr_is_built tree.now }
@@ -52,7 +52,7 @@ fn expr_is_built(tree: &Expr) -> bool
     }
 }
 
-/// Whether a reference is: with one subscript at most, and no substring.
+/// Whether a reference is built: with one subscript at most, and no substring.
 #[cycle(built)]
 fn ref_is_built(found: &Ref) -> bool
     ensures { result ≡ spec.ref_is_built found.now }
@@ -75,10 +75,10 @@ fn subscript_is_built(args: &Option<Items<Expr>>) -> bool
 }
 
 /// Whether a parameter of a DO statement that may be left out is.
-fn step_is_built(step: &Option<Expr>) -> bool
-    ensures { result ≡ spec.step_is_built step.now }
+fn increment_is_built(increment: &Option<Expr>) -> bool
+    ensures { result ≡ spec.increment_is_built increment.now }
 {
-    match step {
+    match increment {
         None => true,
         Some(value) => expr_is_built(value),
     }
@@ -88,7 +88,9 @@ fn step_is_built(step: &Option<Expr>) -> bool
 fn control_is_built(control: &LoopControl) -> bool
     ensures { result ≡ spec.control_is_built control.now }
 {
-    expr_is_built(&control.first) && expr_is_built(&control.last) && step_is_built(&control.step)
+    expr_is_built(&control.first)
+        && expr_is_built(&control.last)
+        && increment_is_built(&control.increment)
 }
 
 /// Whether an item of PRINT is: no implied DO.
@@ -108,7 +110,7 @@ fn items_are_built(items: &[Item]) -> bool
     items.iter().all(|item| item_is_built(item))
 }
 
-/// Whether a statement is: PROGRAM; INTEGER of variables and arrays of one dimension; assignments, DO, CONTINUE and PRINT
+/// Whether a statement is built: PROGRAM; INTEGER of variables and arrays of one dimension; assignments, DO, CONTINUE and PRINT
 /// of such expressions; END.
 pub fn is_built(stmt: &Stmt) -> bool
     ensures { result ≡ spec.is_built stmt.now }

@@ -16,7 +16,7 @@ fn is_upper(bound: &Option<Expr>) -> bool
     }
 }
 
-/// Whether a dimension is: with digits as its upper bound alone.
+/// Whether a dimension is built: with digits as its upper bound alone.
 fn bound_is_built(bound: &Bound) -> bool
     ensures { result ≡ spec.bound_is_built bound.now }
 {
@@ -34,7 +34,7 @@ fn bounds_are_built(bounds: &[Bound]) -> bool
     }
 }
 
-/// Whether a declared name is: without a length of its own.
+/// Whether a declared name is built: without a length of its own.
 fn entity_is_built(entity: &TypedDeclarator) -> bool
     ensures { result ≡ spec.entity_is_built entity.now }
 {

@@ -6,7 +6,8 @@ pub fn law_of_storage()
     ensures { LayoutsAreStorage }
 {}
 
-/// A law: where a file is built, each name stands in storage where those before it end, and is a region of its own.
+/// A law: where a file is built, each name stands in storage where those before it end, and is a region of its own,
+/// and every storage unit opens as 0.
 pub fn law_of_layouts()
     ensures { LayoutsAreLaidOut }
 {}

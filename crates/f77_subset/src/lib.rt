@@ -8,12 +8,14 @@ mod broken;
 mod built;
 mod built_declarations;
 pub mod laws;
+pub mod mention;
 mod mentions;
-pub mod names;
 mod pass;
 mod ranges;
 pub mod subset;
 mod table;
+#[cfg(test)]
+mod test_files;
 #[cfg(test)]
 mod tests;
 mod units;

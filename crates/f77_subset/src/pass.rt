@@ -1,7 +1,7 @@
 //! One pass over the statements of a file: the table of their names, and their DO variables.
 ghost use Rattle.std.specs.Prelude.{◌≡◌, ◌≤◌, ◌<◌, ◌+◌, ◌^◌, length, Ok, Err, Some, None, OnOk, IsErrOf, slice_get};
 ghost use Rattle.f77_ast.specs.declared.refusal.Refusal.{Refusal};
-ghost use Rattle.f77_meaning.specs.Loops.{statements_of};
+ghost use Rattle.f77_meaning.specs.Loops.{statement_count};
 ghost use Rattle.f77_subset.specs.Pass as spec;
 
 use crate::broken::Broken;
@@ -15,16 +15,16 @@ use f77_ast::stmt::Stmt;
 use hyb_base::no_memory::NoMemory;
 use std::alloc::Global;
 
-/// The DO variables so far.
+/// The DO statements so far: how far their variables' ranges reach, and how many they are.
 #[derive(Drop)]
-pub struct Running {
+pub struct LoopsSoFar {
     /// How far the ranges of their loops reach.
     pub ranges: Ranges,
-    /// The number of the loops.
+    /// The number of DO statements so far; the next one's loop stands at this place.
     pub loops: usize,
 }
 
-impl Running {
+impl LoopsSoFar {
     /// Takes a DO statement: its variable, with the next loop.
     fn begin(&mut self, loops: &[Loop], variable: &Name) -> Result<(), NoMemory>
         ensures { OnOk result (self.new ≡ spec.with_next (slice_get loops.now self.old.loops) self.old variable.now) }
@@ -56,8 +56,8 @@ pub struct Pass {
     /// Their names.
     pub table: Table,
     /// Their DO variables.
-    pub running: Running,
-    /// How many there are.
+    pub running: LoopsSoFar,
+    /// The number of statements taken so far.
     pub statements: u32,
 }
 
@@ -68,7 +68,7 @@ impl Pass {
     {
         Pass {
             table: Table::new(alloc),
-            running: Running {
+            running: LoopsSoFar {
                 ranges: Ranges::new(alloc),
                 loops: 0,
             },
@@ -134,7 +134,7 @@ impl Pass {
         loops: &[Loop],
         units: &[Unit],
     ) -> Result<(), FrontError>
-        requires { self.old.statements + statements_of units.now + 1 < 2 ^ 32 }
+        requires { self.old.statements + statement_count units.now + 1 < 2 ^ 32 }
         ensures taken { OnOk result (spec.units_taken loops.now self.old units.now ≡ Ok self.new) }
         ensures refused { (refusal : Refusal) → IsErrOf result (FrontError.Refused refusal) → spec.units_taken loops.now self.old units.now ≡ Err refusal }
     {

@@ -1,7 +1,7 @@
 //! Whether a file is built so far.
 ghost use Rattle.std.specs.Prelude.{◌≡◌, ◌+◌, ◌<◌, ◌^◌, Ok, Err, IfOk, IsErrOf};
 ghost use Rattle.f77_ast.specs.declared.refusal.Refusal.{Refusal};
-ghost use Rattle.f77_meaning.specs.Loops.{loops_of, statements_of};
+ghost use Rattle.f77_meaning.specs.Loops.{statement_count};
 ghost use Rattle.f77_subset.specs.Subset.{subset_of};
 
 use crate::pass::Pass;
@@ -16,8 +16,7 @@ use std::alloc::Global;
 /// `Refused` exactly where a statement isn't built so far or breaks a rule on names, storage or DO variables: at the line
 /// of the first such statement, code 21. `NoMemory` where no memory was to be had.
 pub fn subset(alloc: Global, units: &Units, loops: &Loops) -> Result<Layout, FrontError>
-    requires loops { loops.now ≡ loops_of units.now }
-    requires counted { statements_of units.now + 1 < 2 ^ 32 }
+    requires counted { statement_count units.now + 1 < 2 ^ 32 }
     ensures accepted { IfOk result (λ layout. subset_of loops.now units.now ≡ Ok layout) }
     ensures refused { (refusal : Refusal) → IsErrOf result (FrontError.Refused refusal) → subset_of loops.now units.now ≡ Err refusal }
 {

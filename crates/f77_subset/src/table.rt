@@ -2,7 +2,7 @@
 ghost use Rattle.std.specs.Prelude.{◌≡◌, ◌≤◌, ◌+◌, [], OnOk, IfOk, None, true};
 ghost use Rattle.std.specs.List.{list_all};
 ghost use Rattle.f77_ast.specs.Entity.{entity_in};
-ghost use Rattle.f77_meaning.specs.Storage.{units_by};
+ghost use Rattle.f77_meaning.specs.Storage.{storage_units_by};
 ghost use Rattle.f77_subset.specs.Built.{bounds_are_built, entity_is_built, is_built};
 ghost use Rattle.f77_subset.specs.Names.{mentioned_in};
 ghost use Rattle.f77_subset.specs.Rules.{begins_integer, are_bounds, storage_limit};
@@ -10,9 +10,9 @@ ghost use Rattle.f77_subset.specs.Rules as rule;
 ghost use Rattle.f77_subset.specs.Table as spec;
 
 use crate::broken::Broken;
+use crate::mention::{Mention, Standing};
 use crate::mentions::mentioned_in;
-use crate::names::{Mention, Standing};
-use crate::units::{copy_of, units_of};
+use crate::units::{MOST_STORAGE_UNITS, copy_of, storage_units_of};
 use f77_ast::entities::Entities;
 use f77_ast::expr::Kind;
 use f77_ast::name::Name;
@@ -23,9 +23,6 @@ use hyb_base::list::List;
 use hyb_base::no_memory::NoMemory;
 use hyb_base::nums::Nums;
 use std::alloc::Global;
-
-/// The most storage units of a file.
-const STORAGE: u32 = 1_000_000;
 
 /// The names so far, in the order of their first appearance, and their places in storage.
 #[derive(Drop)]
@@ -92,7 +89,7 @@ impl Table {
     ) -> Result<(), NoMemory>
         requires absent { entity_in self.old.entities 0 name.now ≡ None }
         requires built { bounds_are_built bounds.now ≡ true }
-        requires units { units ≡ units_by bounds.now }
+        requires units { units ≡ storage_units_by bounds.now }
         requires within { self.old.total + units ≤ storage_limit }
         ensures { OnOk result (self.new ≡ spec.behind self.old (record { name = name.now; bounds = bounds.now })) }
     {
@@ -117,12 +114,12 @@ impl Table {
     fn place(&mut self, alloc: Global, name: &Name, bounds: &[Bound]) -> Result<(), Broken>
         requires absent { entity_in self.old.entities 0 name.now ≡ None }
         requires built { bounds_are_built bounds.now ≡ true }
-        ensures { spec.Keeps (spec.placed self.old (record { name = name.now; bounds = bounds.now })) result self.new }
+        ensures { spec.Updates (spec.placed self.old (record { name = name.now; bounds = bounds.now })) result self.new }
     {
-        match units_of(bounds) {
+        match storage_units_of(bounds) {
             None => Err(Broken::Rule),
             Some(units) => {
-                if self.total > STORAGE - units {
+                if self.total > MOST_STORAGE_UNITS - units {
                     return Err(Broken::Rule);
                 }
                 self.push(alloc, name, bounds, units)?;
@@ -134,7 +131,7 @@ impl Table {
     /// Takes a declaration.
     fn declare(&mut self, alloc: Global, declarator: &Declarator) -> Result<(), Broken>
         requires { bounds_are_built declarator.now.bounds ≡ true }
-        ensures { spec.Keeps (spec.declared_by self.old declarator.now) result self.new }
+        ensures { spec.Updates (spec.declared_by self.old declarator.now) result self.new }
     {
         if self.entities.find(0, &declarator.name).is_some() || self.is_program(&declarator.name) {
             return Err(Broken::Rule);
@@ -145,7 +142,7 @@ impl Table {
     /// Takes the declarations of an INTEGER statement.
     fn declare_all(&mut self, alloc: Global, entities: &[TypedDeclarator]) -> Result<(), Broken>
         requires { list_all entity_is_built entities.now ≡ true }
-        ensures { spec.Keeps (spec.all_declared self.old entities.now) result self.new }
+        ensures { spec.Updates (spec.all_declared self.old entities.now) result self.new }
     {
         for entity in entities {
             self.declare(alloc, &entity.declarator)?;
@@ -179,7 +176,7 @@ impl Table {
 
     /// Takes a name that stands in another statement, and may be there already.
     fn appear(&mut self, alloc: Global, mention: &Mention) -> Result<(), Broken>
-        ensures { spec.Keeps (spec.appeared self.old mention.now) result self.new }
+        ensures { spec.Updates (spec.appeared self.old mention.now) result self.new }
     {
         if self.entities.find(0, &mention.name).is_some() {
             return Ok(());
@@ -189,7 +186,7 @@ impl Table {
 
     /// Takes names that stand in another statement.
     fn appear_all(&mut self, alloc: Global, mentions: &[Mention]) -> Result<(), Broken>
-        ensures { spec.Keeps (spec.all_appeared self.old mentions.now) result self.new }
+        ensures { spec.Updates (spec.all_appeared self.old mentions.now) result self.new }
     {
         for mention in mentions {
             self.appear(alloc, mention)?;
@@ -199,7 +196,7 @@ impl Table {
 
     /// Takes the names of a statement that declares nothing.
     fn mention_all(&mut self, alloc: Global, stmt: &Stmt) -> Result<(), Broken>
-        ensures { spec.Keeps (spec.all_mentioned self.old (mentioned_in stmt.now)) result self.new }
+        ensures { spec.Updates (spec.all_mentioned self.old (mentioned_in stmt.now)) result self.new }
     {
         let mentions = mentioned_in(alloc, stmt)?;
         if !self.allows_all(mentions.as_slice()) {
@@ -211,7 +208,7 @@ impl Table {
     /// Takes the next statement: refused where it breaks a rule on names or storage behind those before it.
     pub fn admit(&mut self, alloc: Global, stmt: &Stmt) -> Result<(), Broken>
         requires { is_built stmt.now ≡ true }
-        ensures { spec.Keeps (spec.admitted self.old stmt.now) result self.new }
+        ensures { spec.Updates (spec.admitted self.old stmt.now) result self.new }
     {
         match stmt {
             Stmt::Declare { entities, .. } => self.declare_all(alloc, entities.as_slice()),

@@ -1,6 +1,6 @@
 //! The storage units of a name (ANSI X3.9-1978, sections 2.13 and 5.2.5).
 ghost use Rattle.std.specs.Prelude.{◌≡◌, IfOk, true, [], ◌∷◌};
-ghost use Rattle.f77_meaning.specs.Storage.{units_by, extent_of};
+ghost use Rattle.f77_meaning.specs.Storage.{storage_units_by, extent_of};
 ghost use Rattle.f77_subset.specs.Built.{bounds_are_built};
 ghost use Rattle.f77_subset.specs.Units as spec;
 
@@ -20,12 +20,15 @@ fn last_of(bound: &Option<Expr>) -> Option<i64>
     }
 }
 
+/// The most storage units of a file.
+pub const MOST_STORAGE_UNITS: u32 = 1_000_000;
+
 /// So many elements, where there are from one to as many as there may be storage units.
 fn counted(last: Option<i64>) -> Option<u32>
     ensures { result ≡ spec.within (spec.elements last) }
 {
     let last = last?;
-    if last < 1 || last > 1_000_000 {
+    if last < 1 || last > i64::from(MOST_STORAGE_UNITS) {
         return None;
     }
     u32::try_from(last).ok()
@@ -39,8 +42,8 @@ fn extent_of(bound: &Bound) -> Option<u32>
 }
 
 /// The storage units of a name with such bounds: none where it has no element, or more than there may be.
-pub fn units_of(bounds: &[Bound]) -> Option<u32>
-    ensures { result ≡ spec.within (units_by bounds.now) }
+pub fn storage_units_of(bounds: &[Bound]) -> Option<u32>
+    ensures { result ≡ spec.within (storage_units_by bounds.now) }
 {
     match bounds {
         [] => Some(1),

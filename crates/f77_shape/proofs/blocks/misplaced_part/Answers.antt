@@ -1,5 +1,5 @@
 use Rattle.std.proofs.Common.{sym, ap, ◌∙◌}
-use Rattle.f77_shape.specs.Blocks.{breaks_if, is_misplaced, opened_by}
+use Rattle.f77_shape.specs.Blocks.{is_misplaced_part, is_misplaced, opened_by}
 use Rattle.f77_shape.proofs.Firsts.{turned, first_from}
 use Rattle.f77_shape.proofs.RuleLemmas.{open_more}
 use Rattle.f77_shape.proofs.blocks.misplaced_part.Goals as goal
@@ -10,7 +10,7 @@ loop-listed-preserved c =
     let place = c.loop-listed.listed-index in
     let listed = c.listed-item.result in
     record {
-      first = turned 53 (breaks_if unit) unit place listed c.loop-listed.first (first_from 53 (breaks_if unit) unit 0) c.when.result c.sooner-first.result c.is_misplaced-breaks.result c.loop-listed-test.true c.listed-item.is c.sooner-first.ensures c.when.ensures
+      first = turned 53 (is_misplaced_part unit) unit place listed c.loop-listed.first (first_from 53 (is_misplaced_part unit) unit 0) c.refused_if.result c.sooner-first.result c.is_misplaced-breaks.result c.loop-listed-test.true c.listed-item.is c.sooner-first.ensures c.refused_if.ensures
           (c.is_misplaced-breaks.ensures ∙ ap (λ ifs. is_misplaced ifs listed.stmt) c.loop-listed.invariant.ifs)
           c.loop-listed.invariant.first;
       ifs =

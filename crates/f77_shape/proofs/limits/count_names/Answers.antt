@@ -17,7 +17,7 @@ loop-listed-preserved c =
       names = held;
       count = count;
       first = λ all e.
-          pass_turn all unit i x c.loop-listed.over c.when.result c.sooner-over.result (first_of (names_pass all [] unit)) c.passes.result c.loop-listed-test.true c.listed-item.is c.sooner-over.ensures c.when.ensures
+          pass_turn all unit i x c.loop-listed.over c.refused_if.result c.sooner-over.result (first_of (names_pass all [] unit)) c.passes.result c.loop-listed-test.true c.listed-item.is c.sooner-over.ensures c.refused_if.ensures
           (c.passes.ensures ∙ passes_capped c.args.others all (name_count (names_of (take i unit))) (name_count (names_of (take (i + 1) unit))) c.loop-listed.count c.capped-after.result e c.loop-listed.invariant.count count)
           (c.loop-listed.invariant.first all e);
     }

@@ -1,6 +1,6 @@
 use Rattle.std.proofs.Common.{◌++◌, List, ◌∙◌}
 use Rattle.f77_ast.specs.declared.refusal.Refusal.{Refusal}
-use Rattle.f77_shape.specs.Blocks.{breaks_if, is_unended}
+use Rattle.f77_shape.specs.Blocks.{is_misplaced_part, is_unended}
 use Rattle.f77_shape.specs.Breaks.{broken_by}
 use Rattle.f77_shape.specs.Jumps.{jumps_in}
 use Rattle.f77_shape.specs.Labels.{misses_label, doubles_label}
@@ -15,7 +15,7 @@ returns c =
     let missing : List Refusal = broken_by 50 (misses_label unit) 0 unit in
     let double : List Refusal = broken_by 51 (doubles_label unit) 0 unit in
     let range : List Refusal = broken_by 52 (breaks_range unit) 0 unit in
-    let part : List Refusal = broken_by 53 (breaks_if unit) 0 unit in
+    let part : List Refusal = broken_by 53 (is_misplaced_part unit) 0 unit in
     let unended : List Refusal = broken_by 53 is_unended 0 unit in
     let jump : List Refusal = broken_by 55 (jumps_in unit) 0 unit in
     let order : List Refusal = broken_by 57 (is_out_of_order unit) 0 unit in

@@ -1,9 +1,9 @@
 use Rattle.std.proofs.Common.{sym, ◌∙◌}
 use Rattle.std.specs.List.{list_any}
-use Rattle.f77_shape.specs.Held.{ends_before}
+use Rattle.f77_shape.specs.StretchIndex.{ends_before}
 use Rattle.f77_shape.specs.Openers.{opens_behind}
 use Rattle.f77_shape.proofs.OpenerLemmas.{any_entered, first_of_two, second_of_two}
-use Rattle.f77_shape.proofs.held.Held.is_entered.Goals as goal
+use Rattle.f77_shape.proofs.stretch_index.StretchIndex.is_entered.Goals as goal
 
 pub returns-then-opens_behind : goal.returns-then-opens_behind
 returns-then-opens_behind c = λ stretches held.

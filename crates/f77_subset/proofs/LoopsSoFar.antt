@@ -9,7 +9,7 @@ use Rattle.indexmap.specs.IndexMap.{insert_entry}
 use Rattle.f77_ast.specs.declared.expr.Ref.{out-Ref}
 use Rattle.f77_ast.specs.declared.program.Loop.{Loop}
 use Rattle.f77_ast.specs.declared.stmt.Stmt.{Stmt, Assign, Do}
-use Rattle.f77_subset.specs.declared.pass.Running.{Running}
+use Rattle.f77_subset.specs.declared.pass.LoopsSoFar.{LoopsSoFar}
 use Rattle.f77_subset.specs.Pass.{with_next, followed}
 use Rattle.f77_subset.specs.Ranges.{Ends, is_reached_by, reaches, greatest, with_loop, breaks}
 use Rattle.f77_subset.specs.Rules.{do_variable, do_variables, is_active, assigned_in}
@@ -115,20 +115,20 @@ loops_more (x ∷ vs) (loop ∷ loops) v = ap suc (loops_more vs loops v) ∙ by
 -- ---- statements
 
 -- the DO variables that are kept are those of some statements
-pub record Runs (loops : List Loop) (ss : List Stmt) (r : Running) : Type 0 where
+pub record Runs (loops : List Loop) (ss : List Stmt) (r : LoopsSoFar) : Type 0 where
   pub counted : r.loops ≡ loops_for (do_variables ss) loops
   pub reached : (name : List ℕ) (number : ℕ) → reaches r.ranges name number ≡ is_active name number (do_variables ss) loops
 
 variables_more : (ss : List Stmt) (s : Stmt) → do_variables (ss ++ s ∷ []) ≡ do_variables ss ++ do_variable s
 variables_more ss s = flat_map-append do_variable ss (s ∷ []) ∙ ap (λ l. do_variables ss ++ l) (append-nil (do_variable s))
 
-runs_as : (loops : List Loop) (ss ts : List Stmt) (r : Running) → do_variables ts ≡ do_variables ss → Runs loops ss r → Runs loops ts r
+runs_as : (loops : List Loop) (ss ts : List Stmt) (r : LoopsSoFar) → do_variables ts ≡ do_variables ss → Runs loops ss r → Runs loops ts r
 runs_as loops ss ts r e h = record {
   counted = h.counted ∙ ap (λ vs. loops_for vs loops) (sym e);
   reached = λ name number. h.reached name number ∙ ap (λ vs. is_active name number vs loops) (sym e);
 }
 
-module _ (loops : List Loop) (ss : List Stmt) (r : Running) (h : Runs loops ss r) where
+module _ (loops : List Loop) (ss : List Stmt) (r : LoopsSoFar) (h : Runs loops ss r) where
   begin_by : (s : Stmt) (v : List ℕ) (o : Option Loop) → do_variable s ≡ v ∷ [] → slice_get loops (loops_for (do_variables ss) loops) ≡ o → Runs loops (ss ++ s ∷ []) (with_next o r v)
   begin_by s v None is e = record {
     counted = h.counted ∙ sym (ap (λ vs. loops_for vs loops) (variables_more ss s ∙ ap (λ l. do_variables ss ++ l) is) ∙ loops_more (do_variables ss) loops v ∙ ap (λ o. one_more o (loops_for (do_variables ss) loops)) e);

@@ -1,8 +1,8 @@
 //! The tables of a unit: its labels, its DO ranges and its IF blocks.
 ghost use Rattle.std.specs.Prelude.{IfOk};
-ghost use Rattle.f77_shape.specs.Places.{ArePlaces};
+ghost use Rattle.f77_shape.specs.UnitTables.{AreUnitTables};
 
-use crate::held::{Held, hold};
+use crate::stretch_index::{StretchIndex, index_stretches};
 use crate::stretches::{blocks_of, ranges_of};
 use crate::targets::{Targets, targets_of};
 use f77_ast::program::Listed;
@@ -11,25 +11,25 @@ use std::alloc::Global;
 
 /// The tables of a unit.
 #[derive(Drop)]
-pub struct Places {
+pub struct UnitTables {
     /// What its labels mean.
     pub targets: Targets,
     /// Its DO ranges.
-    pub ranges: Held,
+    pub ranges: StretchIndex,
     /// Its IF blocks.
-    pub blocks: Held,
+    pub blocks: StretchIndex,
 }
 
 /// The tables of a unit.
-pub fn places_of(alloc: Global, unit: &[Listed]) -> Result<Places, NoMemory>
-    ensures { IfOk result (λ places. ArePlaces unit.now places) }
+pub fn unit_tables(alloc: Global, unit: &[Listed]) -> Result<UnitTables, NoMemory>
+    ensures { IfOk result (λ places. AreUnitTables unit.now places) }
 {
     let targets = targets_of(alloc, unit)?;
     let ranges = ranges_of(alloc, unit, &targets)?;
     let blocks = blocks_of(alloc, unit)?;
-    let ranges = hold(alloc, unit.len(), ranges)?;
-    let blocks = hold(alloc, unit.len(), blocks)?;
-    Ok(Places {
+    let ranges = index_stretches(alloc, unit.len(), ranges)?;
+    let blocks = index_stretches(alloc, unit.len(), blocks)?;
+    Ok(UnitTables {
         targets,
         ranges,
         blocks,

@@ -2,7 +2,7 @@
 ghost use Rattle.std.specs.Prelude.{◌≡◌, List, map, IfOk, slice_get};
 ghost use Rattle.std.specs.List.{list_any};
 ghost use Rattle.f77_shape.specs.declared.stretches.Stretch.{Stretch as AStretch};
-ghost use Rattle.f77_shape.specs.Held.{AreHeld, ends_before, mirrored};
+ghost use Rattle.f77_shape.specs.StretchIndex.{IsStretchIndex, ends_before, mirrored};
 ghost use Rattle.f77_shape.specs.Jumps.{is_entered};
 ghost use Rattle.f77_shape.specs.Openers.{opens_behind};
 
@@ -13,7 +13,7 @@ use std::alloc::Global;
 
 /// The DO ranges or the IF blocks of a unit.
 #[derive(Drop)]
-pub struct Held {
+pub struct StretchIndex {
     /// The stretches.
     pub stretches: Vec<Stretch>,
     /// The greatest place.
@@ -54,14 +54,18 @@ fn all_mirrored(
 }
 
 /// The stretches of a unit of so many statements.
-pub fn hold(alloc: Global, count: usize, stretches: Vec<Stretch>) -> Result<Held, NoMemory>
-    ensures { IfOk result (λ held. AreHeld stretches.items held) }
+pub fn index_stretches(
+    alloc: Global,
+    count: usize,
+    stretches: Vec<Stretch>,
+) -> Result<StretchIndex, NoMemory>
+    ensures { IfOk result (λ held. IsStretchIndex stretches.items held) }
 {
     let places = count.saturating_add(1);
     let openers = openers_of(alloc, places, stretches.as_slice())?;
     let backwards = all_mirrored(alloc, count, stretches.as_slice())?;
     let mirrored = openers_of(alloc, places, backwards.as_slice())?;
-    Ok(Held {
+    Ok(StretchIndex {
         stretches,
         limit: count,
         openers,
@@ -94,11 +98,11 @@ fn entry(table: &[usize], place: usize) -> Option<usize>
     table.get(place).copied()
 }
 
-impl Held {
+impl StretchIndex {
     /// Whether one of the stretches holds a place, and opens at another one or behind it. A place outside of the unit has
     /// no entry: there the stretches are searched.
     fn opens_behind(&self, from: usize, to: usize) -> bool
-        ensures { (stretches : List AStretch) → AreHeld stretches self.now → result ≡ list_any (opens_behind from to) stretches }
+        ensures { (stretches : List AStretch) → IsStretchIndex stretches self.now → result ≡ list_any (opens_behind from to) stretches }
     {
         match entry(self.openers.as_slice(), to) {
             None => one_opens_behind(self.stretches.as_slice(), from, to),
@@ -108,7 +112,7 @@ impl Held {
 
     /// Whether one of the stretches holds a place, and ends before another.
     fn ends_before(&self, from: usize, to: usize) -> bool
-        ensures { (stretches : List AStretch) → AreHeld stretches self.now → result ≡ list_any (ends_before from to) stretches }
+        ensures { (stretches : List AStretch) → IsStretchIndex stretches self.now → result ≡ list_any (ends_before from to) stretches }
     {
         if from <= self.limit && to <= self.limit {
             match entry(self.mirrored.as_slice(), self.limit - to) {
@@ -122,7 +126,7 @@ impl Held {
 
     /// Whether one of the stretches holds a place and not another.
     pub fn is_entered(&self, from: usize, to: usize) -> bool
-        ensures { (stretches : List AStretch) → AreHeld stretches self.now → result ≡ list_any (is_entered from to) stretches }
+        ensures { (stretches : List AStretch) → IsStretchIndex stretches self.now → result ≡ list_any (is_entered from to) stretches }
     {
         self.opens_behind(from, to) || self.ends_before(from, to)
     }

@@ -1,6 +1,6 @@
 use Rattle.std.proofs.Common.{◌≡◌, ◌-◌, Some, slice_get, ◌∙◌, rules}
 use Rattle.f77_shape.proofs.OpenerLemmas.{any_mirrored}
-use Rattle.f77_shape.proofs.held.Held.ends_before.Goals as goal
+use Rattle.f77_shape.proofs.stretch_index.StretchIndex.ends_before.Goals as goal
 
 pub returns-in-Some : goal.returns-in-Some
 returns-in-Some c = λ stretches held.

@@ -1,6 +1,6 @@
 -- The stretches of a unit, with tables that tell at once whether one of them holds a place and not another.
 use Rattle.std.specs.Prelude.{◌≡◌, ℕ, ◌-◌, Bool, ◌&&◌, nat_lt, List, map, if◌then◌else◌}
-use Rattle.f77_shape.specs.declared.held.Held.{Held}
+use Rattle.f77_shape.specs.declared.stretch_index.StretchIndex.{StretchIndex}
 use Rattle.f77_shape.specs.declared.stretches.Stretch.{Stretch}
 use Rattle.f77_shape.specs.Openers.{AreOpeners}
 use Rattle.f77_shape.specs.Stretches.{holds}
@@ -17,7 +17,7 @@ mirrored limit stretch =
     else record { opens = 0; last = 0 }
 
 -- these are the stretches, and the tables are of them and of the mirrored ones
-pub record AreHeld (stretches : List Stretch) (held : Held) : Type 0 where
+pub record IsStretchIndex (stretches : List Stretch) (held : StretchIndex) : Type 0 where
   pub same : held.stretches.items ≡ stretches
   pub openers : AreOpeners stretches held.openers.items
   pub mirrored : AreOpeners (map (mirrored held.limit) stretches) held.mirrored.items
