@@ -2,11 +2,11 @@
 use Rattle.std.proofs.Common.{◌≡◌, ℕ, ◌<◌, ◌≤◌, ◌+◌, ◌-◌, List, [], ◌++◌, length, take, drop, Option, Some, None, refl, sym, ap, ◌∙◌, arith, length-drop}
 use Rattle.std.proofs.lemmas.Grind.{common_steps}
 use Rattle.std.proofs.Math.Seq.{take-add}
-use Rattle.hyb_outside.specs.FilesSeen.{FilesSeen, Gives, IsEnd}
+use Rattle.hyb_outside.specs.FilesSeen.{FilesSeen, FillsFrom, IsEnd}
 use Rattle.hybrid_top.specs.Reading.{Keeps, Follows, IsWhole, IsTooLong, file_limit}
 
 -- some bytes more are the first of the content too
-pub follows_more : (content : Option (List ℕ)) (bytes buffer : List ℕ) (n : ℕ) → n ≤ length buffer → Gives content (length bytes) n buffer → Follows content bytes → Follows content (bytes ++ take n buffer)
+pub follows_more : (content : Option (List ℕ)) (bytes buffer : List ℕ) (n : ℕ) → n ≤ length buffer → FillsFrom content (length bytes) n buffer → Follows content bytes → Follows content (bytes ++ take n buffer)
 follows_more None bytes buffer n within gives follows = tt
 follows_more (Some all) bytes buffer n within gives follows =
     let long : length (bytes ++ take n buffer) ≡ length bytes + n = grind (arith, common_steps) in

@@ -1,11 +1,11 @@
 -- When each answer of a command comes: what it rests on (`Only`), and when it has to come (`Comes`).
 use Rattle.std.specs.Prelude.{◌≡◌, ℕ, ◌+◌, ◌-◌, ◌^◌, ◌≤◌, ◌<◌, min, Bool, true, false, List, length, map, Option, Some, Ok, Err, ◌⊎◌}
 use Rattle.hyb_base.specs.Count.{Rose}
-use Rattle.hyb_outside.specs.declared.pieces.To.{To}
-use Rattle.hyb_outside.specs.declared.pieces.To.TheVariants.{Out}
+use Rattle.hyb_outside.specs.declared.pieces.SinkName.{SinkName}
+use Rattle.hyb_outside.specs.declared.pieces.SinkName.TheVariants.{Out}
 use Rattle.hyb_outside.specs.FilesSeen.{FilesSeen}
 use Rattle.hyb_outside.specs.Pieces.{share_of, OneRose}
-use Rattle.hyb_outside.specs.Seen.{Seen, Takes}
+use Rattle.hyb_outside.specs.SinkSeen.{SinkSeen, Takes}
 use Rattle.f77_ast.specs.declared.program.Program.{Program}
 use Rattle.f77_ast.specs.declared.refusal.Refusal.{Refusal}
 use Rattle.f77_meaning.specs.Run.{Ended, sequential_run}
@@ -43,7 +43,7 @@ pub record FileLimitComes (request : Option RunRequest) (old new : FilesSeen) (r
 abbrev pub IsFile : RunRequest → ℕ → List ℕ → Type 0
 IsFile r file name = ((file ≡ 1) × (name ≡ r.program)) ⊎ (((file ≡ 2) × (name ≡ r.input)) ⊎ ((file ≡ 3) × (name ≡ r.schedule)))
 
--- a FileLimit names a file that has too many bytes
+-- a FileLimit names a file that has too many bytes, where its content is told
 abbrev pub FileLimitOnly : Option RunRequest → FilesSeen → Status → Type 0
 FileLimitOnly request old result = (file : ℕ) → result ≡ status.FileLimit file → (r : RunRequest) × (name : List ℕ) × (request ≡ Some r) × IsFile r file name × IsTooLong (old.content name)
 
@@ -67,7 +67,7 @@ is_of_run status.StepsSpent = true
 is_of_run _ = false
 
 -- the result is that of the sequential run of an accepted program on an input, and `out` took its lines
-pub record IsRun (request : Option RunRequest) (old : FilesSeen) (result : Status) (out_old out_new : Seen) : Type 0 where
+pub record IsRun (request : Option RunRequest) (old : FilesSeen) (result : Status) (out_old out_new : SinkSeen) : Type 0 where
   pub asked : RunRequest
   pub bytes : List ℕ
   pub program : Program
@@ -82,7 +82,7 @@ pub record IsRun (request : Option RunRequest) (old : FilesSeen) (result : Statu
   pub lines : Takes (lines_text (sequential_run program input asked.steps).lines) out_old out_new
 
 -- Done, Faulted and StepsSpent are those of a sequential run, and `out` took its lines and nothing else
-abbrev pub RunOnly : Option RunRequest → FilesSeen → Status → Seen → Seen → Type 0
+abbrev pub RunOnly : Option RunRequest → FilesSeen → Status → SinkSeen → SinkSeen → Type 0
 RunOnly request old result out_old out_new = is_of_run result ≡ true → IsRun request old result out_old out_new
 
 -- an accepted program and files within the limit are told: the sequential run's end is answered
@@ -90,7 +90,7 @@ abbrev pub RunComes : Option RunRequest → FilesSeen → FilesSeen → Status �
 RunComes request old new result = (r : RunRequest) (bytes : List ℕ) (program : Program) (input schedule : List ℕ) → request ≡ Some r → NoneFailed old new → Tells old r.program bytes → front_of bytes ≡ Ok program → Tells old r.input input → Tells old r.schedule schedule → IsOrYields result (status_of (sequential_run program input r.steps).end)
 
 -- a run that ends without fault within its steps, and no failed call, give Done, or want of memory
-abbrev pub RunCompletes : Option RunRequest → FilesSeen → FilesSeen → Status → (To → Seen) → (To → Seen) → Type 0
+abbrev pub RunCompletes : Option RunRequest → FilesSeen → FilesSeen → Status → (SinkName → SinkSeen) → (SinkName → SinkSeen) → Type 0
 RunCompletes request files_old files_new result old new = (r : RunRequest) (bytes : List ℕ) (program : Program) (input schedule : List ℕ) → request ≡ Some r → NoneFailed files_old files_new → Tells files_old r.program bytes → front_of bytes ≡ Ok program → Tells files_old r.input input → Tells files_old r.schedule schedule → (sequential_run program input r.steps).end ≡ Ended → ¬ OneRose old new → (result ≡ status.Done) ⊎ (result ≡ status.NoMemory)
 
 -- the answers before the first step
@@ -103,11 +103,12 @@ is_before_run status.NoMemory = true
 is_before_run (status.FileLimit file) = true
 is_before_run _ = false
 
--- how many files were read to their end before an answer
+-- how many files were read to their end before an answer at least
 abbrev pub ends_owed : Status → ℕ
 ends_owed status.Done = 3
 ends_owed (status.Refused refusal) = 1
 ends_owed (status.BadSchedule line) = 3
+ends_owed (status.FileLimit file) = file - 1
 ends_owed (status.Faulted fault line) = 3
 ends_owed status.StepsSpent = 3
 ends_owed _ = 0

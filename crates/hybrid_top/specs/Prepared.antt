@@ -21,7 +21,7 @@ pub record MayRead (seen : FilesSeen) (request : RunRequest) : Type 0 where
 -- why a file wasn't read whole
 pub data ReadStops (file : ℕ) (content : Option (List ℕ)) (old new : FilesSeen) (stop : Status) : Type 0 where
   fault : stop ≡ status.ReadFault → Rose old.faults new.faults → new.ends ≡ old.ends → ReadStops file content old new stop
-  too_long : stop ≡ status.FileLimit file → IsTooLong content → ReadStops file content old new stop
+  too_long : stop ≡ status.FileLimit file → IsTooLong content → new.ends ≡ old.ends → ReadStops file content old new stop
   no_memory : stop ≡ status.NoMemory → ReadStops file content old new stop
 
 -- a machine of a request before its first step: the three files are read whole, the program is accepted, and the machine

@@ -95,6 +95,7 @@ pub fn read_file<F: Files>(alloc: Global, name: &[u8], files: &mut F) -> Result<
     ensures end { OnOk result ((F.seen files.new).ends ≡ next_count (F.seen files.old).ends) }
     ensures fault { IsErrOf result ReadError.Fault → Rose (F.seen files.old).faults (F.seen files.new).faults }
     ensures no_end { IsErrOf result ReadError.Fault → (F.seen files.new).ends ≡ (F.seen files.old).ends }
+    ensures no_end_yet { IsErrOf result ReadError.TooLong → (F.seen files.new).ends ≡ (F.seen files.old).ends }
     ensures too_long { IsErrOf result ReadError.TooLong → IsTooLong ((F.seen files.old).content name.now) }
     ensures keeps { Keeps (F.seen files.old) (F.seen files.new) }
 {

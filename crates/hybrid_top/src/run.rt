@@ -10,7 +10,7 @@ ghost use Rattle.hybrid_top.specs.Machine.{IsReady};
 use crate::machine::Machine;
 use crate::status::Status;
 use f77_ast::step::Stepped;
-use hyb_outside::pieces::{To, put};
+use hyb_outside::pieces::{SinkName, put};
 use hyb_outside::sink::Sink;
 
 /// Runs at most so many steps. Each printed line goes to `out` with its LF, directly after its step.
@@ -42,7 +42,7 @@ pub fn run<O: Sink, N: Sink, Q: Sink>(
         match process.step(&program, &mut store, &mut input, &mut line) {
             Stepped::Printed => {
                 line.finish();
-                match put(To::Out, line.text(), out, notes, order) {
+                match put(SinkName::Out, line.text(), out, notes, order) {
                     Ok(()) => line.clear(),
                     Err(_failed) => return Status::WriteFault,
                 }

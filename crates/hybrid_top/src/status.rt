@@ -1,7 +1,8 @@
 //! How a command ends.
 ghost use Rattle.std.specs.Prelude.{◌≡◌};
 
-use f77_ast::refusal::{Fault, Refusal};
+use f77_ast::fault::Fault;
+use f77_ast::refusal::Refusal;
 
 /// How a command ended.
 #[derive(Clone, Copy, Debug, PartialEq, Eq)]

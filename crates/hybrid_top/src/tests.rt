@@ -2,7 +2,8 @@
 
 use crate::hybrid;
 use crate::status::Status;
-use f77_ast::refusal::{Fault, Refusal};
+use f77_ast::fault::Fault;
+use f77_ast::refusal::Refusal;
 use hyb_base::bytes::Bytes;
 use hyb_base::no_memory::NoMemory;
 use hyb_base::words::Words;

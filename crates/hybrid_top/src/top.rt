@@ -3,7 +3,7 @@ ghost use Rattle.std.specs.Prelude.{◌≡◌, ◌≢◌, ◌⊎◌, ℕ, [], No
 ghost use Rattle.std.specs.Option.{ForSome};
 ghost use Rattle.hyb_base.specs.Count.{Rose};
 ghost use Rattle.hyb_outside.specs.Pieces.{sinks, OneRose};
-ghost use Rattle.hyb_outside.specs.Seen.{Takes};
+ghost use Rattle.hyb_outside.specs.SinkSeen.{Takes};
 ghost use Rattle.hybrid_top.specs.Answer.{stops, Gives, Performed, Answered};
 ghost use Rattle.hybrid_top.specs.Causes.{FileLimitComes, FileLimitOnly, RefusedComes, RefusedOnly, RunOnly, RunComes, RunCompletes, is_before_run, EndsGiven};
 ghost use Rattle.hybrid_top.specs.Command.{command_of};
@@ -18,12 +18,12 @@ use crate::status::Status;
 use crate::status_line::StatusLine;
 use hyb_base::words::Words;
 use hyb_outside::files::Files;
-use hyb_outside::pieces::{To, put};
+use hyb_outside::pieces::{SinkName, put};
 use hyb_outside::sink::Sink;
 use std::alloc::Global;
 
 /// Does what the words ask for, up to the status line.
-fn answer<F: Files, O: Sink, N: Sink, Q: Sink>(
+fn perform<F: Files, O: Sink, N: Sink, Q: Sink>(
     alloc: Global,
     words: &Words,
     files: &mut F,
@@ -63,14 +63,14 @@ fn conclude<O: Sink, N: Sink, Q: Sink>(
         return status;
     }
     let line = StatusLine::new(status);
-    match put(To::Notes, line.as_slice(), out, notes, order) {
+    match put(SinkName::Notes, line.as_slice(), out, notes, order) {
         Ok(()) => status,
         Err(_failed) => Status::WriteFault,
     }
 }
 
 /// Does what the words ask for, and tells its status.
-fn perform<F: Files, O: Sink, N: Sink, Q: Sink>(
+fn answer<F: Files, O: Sink, N: Sink, Q: Sink>(
     alloc: Global,
     words: &Words,
     files: &mut F,
@@ -85,7 +85,7 @@ fn perform<F: Files, O: Sink, N: Sink, Q: Sink>(
     ensures ends { EndsGiven result (F.seen files.old).ends (F.seen files.new).ends }
     ensures keeps { Keeps (F.seen files.old) (F.seen files.new) }
 {
-    let status = answer(alloc, words, files, out, notes, order);
+    let status = perform(alloc, words, files, out, notes, order);
     if status == Status::WriteFault {
         return status;
     }
@@ -145,5 +145,5 @@ pub fn hybrid<F: Files, O: Sink, N: Sink, Q: Sink>(
     // What the files hold and which may be asked for is as before, and no count fell.
     ensures keeps { Keeps (F.seen files.old) (F.seen files.new) }
 {
-    perform(alloc, words, files, out, notes, order)
+    answer(alloc, words, files, out, notes, order)
 }

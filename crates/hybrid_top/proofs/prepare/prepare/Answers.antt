@@ -13,7 +13,7 @@ returns-in_err-bytes-clause-stops g c =
 pub returns-in_err-program-clause-stops : goal.returns-in_err-program-clause-stops
 returns-in_err-program-clause-stops g c =
     let p = err_from_is_err_and c.from_residual-in_err-program.result c.from_residual-in_err-program.ensures.1 in
-    rw (p.1, p.2) (front_stops _ _ _ _ _ (rw c.as_slice.ensures c.in_ok-bytes.ensures.whole) c.in_err-program.ensures.stops)
+    rw (p.1, p.2) (front_stops _ _ _ _ _ c.in_ok-bytes.ensures.end (rw c.as_slice.ensures c.in_ok-bytes.ensures.whole) c.in_err-program.ensures.stops)
 
 pub returns-in_err-input-clause-stops : goal.returns-in_err-input-clause-stops
 returns-in_err-input-clause-stops g c =

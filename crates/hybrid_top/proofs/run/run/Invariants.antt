@@ -1,7 +1,7 @@
 use Rattle.std.proofs.Common.{◌≡◌, []}
-use Rattle.hyb_outside.specs.declared.pieces.To.{To}
+use Rattle.hyb_outside.specs.declared.pieces.SinkName.{SinkName}
 use Rattle.hyb_outside.specs.Pieces.{sinks}
-use Rattle.hyb_outside.specs.Seen.{Seen}
+use Rattle.hyb_outside.specs.SinkSeen.{SinkSeen}
 use Rattle.f77_meaning.specs.Run.{run_from}
 use Rattle.f77_meaning.specs.Sound.{IsSound, Fits}
 use Rattle.f77_machine.specs.Line.{text_of}
@@ -18,7 +18,7 @@ invariant-loop-left g l = record {
   is_of : IsProcessOf l.program l.process;
   fits : Fits l.program.layout (values_of l.store);
   line : text_of l.line ≡ [];
-  rest : (s : Status) (new : To → Seen) →
+  rest : (s : Status) (new : SinkName → SinkSeen) →
       Shows (ran (run_from l.program (process_of l.process) (values_of l.store) l.left)) s
       (sinks (g.O.Sink.seen l.out) (g.N.Sink.seen l.notes) (g.Q.Sink.seen l.order)) new →
       Shows (ran (run_from l.initial.program (process_of l.initial.process) (values_of l.initial.store) l.initial.left)) s

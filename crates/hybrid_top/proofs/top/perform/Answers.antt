@@ -1,14 +1,19 @@
-use Rattle.std.proofs.Common.{◌≡◌, ◌≢◌, rules}
+use Rattle.std.proofs.Common.{sym, refl}
+use Rattle.hybrid_top.specs.Answer.{usage}
+use Rattle.hybrid_top.specs.Command.{request_of}
 use Rattle.hybrid_top.specs.declared.status.Status.TheVariants as status
-use Rattle.hybrid_top.proofs.TopLemmas.{performed_cut, performed_then}
+use Rattle.hybrid_top.proofs.TopLemmas.{prepared_performs, stop_performs}
 use Rattle.hybrid_top.proofs.top.perform.Goals as goal
 
-pub returns-then-eq-clause-answered : goal.returns-then-eq-clause-answered
-returns-then-eq-clause-answered g c =
-    let cut : c.answer-status.result ≡ status.WriteFault = search rules in
-    performed_cut _ _ _ _ _ _ c.answer-status.ensures.performed cut
+pub prepare-requires : goal.prepare-requires
+prepare-requires g c = c.requires (request_of c.in-Some.command) (sym c.in-Some.ensures.request)
 
-pub returns-clause-answered : goal.returns-clause-answered
-returns-clause-answered g c =
-    let written : c.answer-status.result ≢ status.WriteFault = search rules in
-    performed_then _ _ _ _ _ _ _ _ c.answer-status.ensures.performed written c.conclude.ensures
+pub returns-in-None-clause-performed : goal.returns-in-None-clause-performed
+returns-in-None-clause-performed g c = stop_performs _ _ _ status.Usage _ (usage (sym c.in-None.ensures.request) refl refl)
+
+pub returns-in-Ok-clause-performed : goal.returns-in-Ok-clause-performed
+returns-in-Ok-clause-performed g c =
+    rw (← c.in-Some.ensures.request) (prepared_performs _ _ (request_of c.in-Some.command) c.in-Ok.machine c.run.result _ _ c.in-Ok.ensures.prepared c.in-Ok.ensures.ends c.run.ensures)
+
+pub returns-in-Err-clause-performed : goal.returns-in-Err-clause-performed
+returns-in-Err-clause-performed g c = rw (← c.in-Some.ensures.request) (stop_performs _ _ _ c.in-Err.status _ c.in-Err.ensures.stops)
