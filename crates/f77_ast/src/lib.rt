@@ -15,5 +15,3 @@ pub mod refusal;
 pub mod specification;
 pub mod step;
 pub mod stmt;
-#[cfg(test)]
-mod tests;

@@ -21,5 +21,3 @@ mod print;
 pub mod process;
 mod reads;
 pub mod store;
-#[cfg(test)]
-mod tests;

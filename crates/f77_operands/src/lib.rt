@@ -10,5 +10,3 @@ mod counted;
 pub mod laws;
 pub mod limit;
 pub mod needs;
-#[cfg(test)]
-mod tests;

@@ -14,8 +14,4 @@ mod pass;
 mod ranges;
 pub mod subset;
 mod table;
-#[cfg(test)]
-mod test_files;
-#[cfg(test)]
-mod tests;
 mod units;

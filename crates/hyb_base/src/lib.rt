@@ -13,7 +13,5 @@ pub mod near;
 pub mod no_memory;
 pub mod nums;
 pub mod ops;
-#[cfg(test)]
-mod tests;
 pub mod words;
 pub mod wrap;

@@ -17,5 +17,3 @@ pub mod pieces;
 pub mod sink;
 pub mod std_sink;
 mod table;
-#[cfg(test)]
-mod tests;
