@@ -1,8 +1,8 @@
 //! Trees that are the same and trees that aren't, told by hand.
 
-use f77_trees::same::{same_expr, same_ref};
 use f77_ast::expr::{Expr, Op, Part, Ref};
 use f77_ast::name::Name;
+use f77_trees::same::{same_expr, same_ref};
 use hyb_base::bytes::Bytes;
 use hyb_base::list::List;
 use hyb_base::ops::Rel;
