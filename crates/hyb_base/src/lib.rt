@@ -13,5 +13,6 @@ pub mod near;
 pub mod no_memory;
 pub mod nums;
 pub mod ops;
+pub mod reduction;
 pub mod words;
 pub mod wrap;
