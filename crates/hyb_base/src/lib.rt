@@ -1,6 +1,6 @@
 //! Lists, wrapped 64-bit arithmetic, decimal texts, operators, bindings and the storage that programs run over.
 //!
-//! Every crate of the project stands on this one.
+//! Every crate of the project uses this one.
 #![tactic(auto)]
 
 pub mod bytes;

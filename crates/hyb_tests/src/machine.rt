@@ -11,7 +11,7 @@ use hyb_base::bytes::Bytes;
 use std::alloc::Global;
 use std::test::Fail;
 
-/// A line of so many bytes.
+/// A line of this length.
 fn a_line(alloc: Global, length: usize) -> Result<Line, Fail> {
     let mut text = Bytes::new(alloc);
     for _ in 1..length {

@@ -16,7 +16,7 @@ use std::process::Abort;
 use std::test::Fail;
 use std::{fs, io};
 
-/// A read of a named file, into a buffer of so many bytes.
+/// A read of a named file, into a buffer of `room` bytes.
 #[derive(Clone, Copy)]
 struct Asked<'a> {
     name: &'a [u8],
@@ -164,7 +164,7 @@ fn pieces_in_order(rt: HostRuntime) -> Result<(), Fail> {
     Ok(())
 }
 
-/// A writer that takes at most so many bytes in a call, and fails from a call on, counted from 0.
+/// A writer that takes at most `most` bytes in a call, and fails from a call on, counted from 0.
 #[derive(Drop)]
 struct Slow {
     most: usize,

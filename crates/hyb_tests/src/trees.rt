@@ -19,7 +19,7 @@ fn a_name(text: &[u8]) -> Result<Ref, Fail> {
     })
 }
 
-/// A name with so many equal subscripts.
+/// A name with `count` equal subscripts.
 fn an_element(alloc: Global, text: &[u8], subscript: i64, count: usize) -> Result<Expr, Fail> {
     let mut args = Items::new(alloc);
     for _ in 0..count {
