@@ -1,12 +1,12 @@
 //! Escapes: what a backslash in a text means.
-ghost use Rattle.std.specs.Prelude.{◌≤◌, ◌<◌, length, IfSome, IfOk};
+ghost use Rattle.std.specs.Prelude.{◌≤◌, length, IfOk};
 ghost use Rattle.std.specs.Iterator.{at_most};
 
 use crate::repeat::{Repeat, read_repeat};
 use thiserror::Error;
 
 /// Why the escapes of a text can't be read.
-#[derive(Clone, Copy, Debug, PartialEq, Eq, Error)]
+#[derive(Clone, Copy, Debug, Error)]
 pub enum BadEscape {
     /// A backslash at the end, or followed by a byte that begins no escape.
     #[error("a backslash that begins no escape")]
@@ -26,7 +26,7 @@ pub enum BadEscape {
 }
 
 /// A piece of a text with escapes.
-#[derive(Clone, Copy, Debug, PartialEq, Eq)]
+#[derive(Clone, Copy)]
 pub enum Piece<'a> {
     /// A byte, written by itself or by an escape.
     Byte(u8),
@@ -95,21 +95,15 @@ fn escaped(text: &[u8]) -> Result<(Piece<'_>, &[u8]), BadEscape>
 fn hex_byte(text: &[u8]) -> Result<(Piece<'_>, &[u8]), BadEscape>
     ensures { IfOk result (λ read. length read.1.now ≤ length text.now) }
 {
-    let (high, rest) = text.split_first().ok_or(BadEscape::Hex)?;
-    let (low, rest) = rest.split_first().ok_or(BadEscape::Hex)?;
-    let high = hex_digit(*high).ok_or(BadEscape::Hex)?;
-    let low = hex_digit(*low).ok_or(BadEscape::Hex)?;
-    Ok((Piece::Byte(16 * high + low), rest))
+    let (digits, rest) = text.split_at_checked(2).ok_or(BadEscape::Hex)?;
+    let byte = hex_value(digits).ok_or(BadEscape::Hex)?;
+    Ok((Piece::Byte(byte), rest))
 }
 
-/// The value of a hex digit, with letters of both cases.
-fn hex_digit(digit: u8) -> Option<u8>
-    ensures { IfSome result (λ value. value < 16) }
-{
-    match digit {
-        b'0'..=b'9' => Some(digit - b'0'),
-        b'a'..=b'f' => Some(digit - b'a' + 10),
-        b'A'..=b'F' => Some(digit - b'A' + 10),
-        _ => None,
+/// The number that hex digits of both cases stand for, where they are digits and it fits a byte.
+fn hex_value(digits: &[u8]) -> Option<u8> {
+    if !digits.iter().all(|digit| digit.is_ascii_hexdigit()) {
+        return None;
     }
+    u8::from_str_radix(str::from_utf8(digits).ok()?, 16).ok()
 }

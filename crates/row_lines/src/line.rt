@@ -7,7 +7,7 @@ use std::alloc::{AllocError, Global};
 use thiserror::Error;
 
 /// A line of a row file.
-#[derive(Debug, Drop)]
+#[derive(Drop)]
 pub struct Line {
     /// Its number in the file, from 1.
     pub number: u64,
@@ -18,7 +18,7 @@ pub struct Line {
 }
 
 /// A line that can't be read.
-#[derive(Clone, Copy, Debug, PartialEq, Eq, Error)]
+#[derive(Clone, Copy, Debug, Error)]
 #[error("line {number}: {cause}")]
 pub struct UnreadableLine {
     /// Its number in the file, from 1.

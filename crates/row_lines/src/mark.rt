@@ -26,7 +26,7 @@ pub enum Mark {
 }
 
 /// How the text of a line is written.
-#[derive(Clone, Copy, Debug, PartialEq, Eq)]
+#[derive(Clone, Copy)]
 pub enum Form {
     /// Words that follow the mark, without the blanks at both ends. It gets no LF.
     Words,

@@ -7,7 +7,7 @@ use crate::escape::BadEscape;
 pub const LONGEST_REPEAT: u64 = 16_777_216;
 
 /// A text that is repeated.
-#[derive(Clone, Copy, Debug, PartialEq, Eq)]
+#[derive(Clone, Copy)]
 pub struct Repeat<'a> {
     /// How often.
     pub times: u64,

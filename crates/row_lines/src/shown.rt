@@ -3,7 +3,7 @@
 use std::fmt;
 
 /// Shows bytes as `>` lines have them: the printable bytes of ASCII as they are, each other by its escape.
-#[derive(Clone, Copy, Debug)]
+#[derive(Clone, Copy)]
 pub struct Shown<'a>(pub &'a [u8]);
 
 impl fmt::Display for Shown<'_> {
