@@ -92,10 +92,7 @@ fn show_declarator(declarator: &Declarator, into: &mut Bytes) -> Result<(), NoMe
 }
 
 /// Shows declarators: `A(_:2),B`.
-pub fn show_declarators(
-    declarators: &Items<Declarator>,
-    into: &mut Bytes,
-) -> Result<(), NoMemory> {
+pub fn show_declarators(declarators: &Items<Declarator>, into: &mut Bytes) -> Result<(), NoMemory> {
     for (place, declarator) in declarators.as_slice().iter().enumerate() {
         show_comma(place, into)?;
         show_declarator(declarator, into)?;
@@ -104,10 +101,7 @@ pub fn show_declarators(
 }
 
 /// Shows the entities of a type statement: `A,B(_:2)*5`.
-pub fn show_declared(
-    entities: &Items<TypedDeclarator>,
-    into: &mut Bytes,
-) -> Result<(), NoMemory> {
+pub fn show_declared(entities: &Items<TypedDeclarator>, into: &mut Bytes) -> Result<(), NoMemory> {
     for (place, entity) in entities.as_slice().iter().enumerate() {
         show_comma(place, into)?;
         show_declarator(&entity.declarator, into)?;
@@ -116,7 +110,7 @@ pub fn show_declared(
     Ok(())
 }
 
-/// Shows the groups of COMMON, each behind a blank: ` //A /X/B,C`.
+/// Shows the groups of COMMON, each after a blank: ` //A /X/B,C`.
 pub fn show_common(groups: &Items<CommonGroup>, into: &mut Bytes) -> Result<(), NoMemory> {
     for group in groups.as_slice() {
         into.push_slice(b" /".as_slice())?;
@@ -138,7 +132,7 @@ pub fn show_references(references: &Items<Ref>, into: &mut Bytes) -> Result<(), 
     Ok(())
 }
 
-/// Shows the lists of EQUIVALENCE, each behind a blank: ` (A,B) (C,D)`.
+/// Shows the lists of EQUIVALENCE, each after a blank: ` (A,B) (C,D)`.
 pub fn show_equivalence(
     groups: &Items<EquivalenceGroup>,
     into: &mut Bytes,
@@ -152,10 +146,7 @@ pub fn show_equivalence(
 }
 
 /// Shows the constants of PARAMETER: `N 5,M (N*2)`.
-pub fn show_constants(
-    constants: &Items<NamedConstant>,
-    into: &mut Bytes,
-) -> Result<(), NoMemory> {
+pub fn show_constants(constants: &Items<NamedConstant>, into: &mut Bytes) -> Result<(), NoMemory> {
     for (place, constant) in constants.as_slice().iter().enumerate() {
         show_comma(place, into)?;
         into.push_slice(constant.name.as_slice())?;
@@ -185,7 +176,7 @@ fn show_letters(letters: &Items<LetterRange>, into: &mut Bytes) -> Result<(), No
     into.push(b')')
 }
 
-/// Shows the rules of IMPLICIT, each behind a blank: ` integer(A-C,X) logical(L)`.
+/// Shows the rules of IMPLICIT, each after a blank: ` integer(A-C,X) logical(L)`.
 pub fn show_rules(rules: &Items<ImplicitRule>, into: &mut Bytes) -> Result<(), NoMemory> {
     for rule in rules.as_slice() {
         into.push(b' ')?;
@@ -207,7 +198,7 @@ fn show_saved(entry: &SaveEntry, into: &mut Bytes) -> Result<(), NoMemory> {
     }
 }
 
-/// Shows the names of SAVE, each behind a blank: ` A /X/`.
+/// Shows the names of SAVE, each after a blank: ` A /X/`.
 pub fn show_save(entries: &Items<SaveEntry>, into: &mut Bytes) -> Result<(), NoMemory> {
     for entry in entries.as_slice() {
         into.push(b' ')?;

@@ -46,7 +46,7 @@ fn show_values(values: &Items<DataValue>, into: &mut Bytes) -> Result<(), NoMemo
     into.push(b'/')
 }
 
-/// Shows the groups of DATA, each behind a blank: ` A,B[1]/1,3*0/ L/true/`.
+/// Shows the groups of DATA, each after a blank: ` A,B[1]/1,3*0/ L/true/`.
 pub fn show_groups(groups: &Items<DataGroup>, into: &mut Bytes) -> Result<(), NoMemory> {
     for group in groups.as_slice() {
         into.push(b' ')?;

@@ -2,7 +2,7 @@
 //!
 //! Each function adds to a list of bytes, without LF except where its comment says so. A tree is shown with its
 //! structure, so that two different trees have different texts: every operator has brackets round it and a name of its
-//! own in lower case or signs, names stand as they are in upper case.
+//! own in lower case or signs, and names are in upper case.
 #![tactic(auto)]
 
 pub mod declarations;
