@@ -82,21 +82,23 @@ impl Judge<'_> {
     }
 }
 
-/// Judges the cases of a file, and prints those that differ, and how many they are. The number of those that differ.
+/// Judges the cases of a file, and prints what differs or can't be read, and then how many cases there are. The number of
+/// those that differ and of the lines that can't be read.
 pub fn judge_file(rt: &(impl Print + AllocGlobal), name: &str, bytes: &[u8]) -> Result<u64> {
     let alloc = rt.alloc();
     let judge = Judge {
         alloc,
         name,
-        table: Table::of(name).context("no table has this name")?,
+        table: Table::of(name).context(format_args!("{name}: no table has this name"))?,
     };
     let cases = cases(alloc, bytes)?;
+    let read = cases.iter().filter(|case| case.is_ok()).count();
     let mut differ: u64 = 0;
     for case in &cases {
         if !judge.judge(rt, case)? {
             differ = differ.saturating_add(1);
         }
     }
-    println!(rt; "{name}: {} cases, {differ} differ", cases.len())?;
+    println!(rt; "{name}: {read} cases, {differ} differ")?;
     Ok(differ)
 }
