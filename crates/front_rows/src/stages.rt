@@ -1,5 +1,5 @@
 //! The calls of the front end, one after another, up to the one whose result is shown.
-ghost use Rattle.std.specs.Prelude.{◌≡◌, ◌+◌, ◌^◌, ◌<◌, length, IsTrue};
+ghost use Rattle.std.specs.Prelude.{◌+◌, ◌^◌, ◌<◌, IsTrue};
 ghost use Rattle.f77_meaning.specs.Loops.{statement_count};
 
 use f77_ast::program::{Layout, Listed, Listing, Loops, Units};
