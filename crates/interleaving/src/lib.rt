@@ -1,0 +1,50 @@
+//! Laws on iterations that take their steps interleaved, over an abstract machine.
+//!
+//! The definitions are in `specs/`. Each function here does nothing: its contract is a law, proved for all types of processes `P`, of
+//! operators `O` and of values `V`. Nothing is said of threads: a region takes one step a pick.
+#![tactic(auto)]
+
+ghost use Rattle.interleaving.specs.Interleaving.{Interleaves, IsWhole, RunsAlone};
+ghost use Rattle.interleaving.specs.Loops.{LoopInterleaves, LoopIsWhole, LoopRunsAlone, Owners};
+ghost use Rattle.interleaving.specs.Prefixes.{DoPrefixes};
+
+/// Interleaving: where modes fit the traces of iterations that run in turn, every list of picks leaves their region without a fault; it is
+/// over after all their steps, with the store that they leave in turn.
+pub fn law_of_interleaving<P, O, V>()
+    ensures { Interleaves P O V }
+{}
+
+/// Alone: where modes fit iterations that run in turn, each of them runs alone from the entry with the same trace.
+pub fn law_of_running_alone<P, O, V>()
+    ensures { RunsAlone P O V }
+{}
+
+/// Whole: where modes fit iterations that run each alone, and picks bring their region to its end, they run in turn to its store.
+pub fn law_of_whole_executions<P, O, V>()
+    ensures { IsWhole P O V }
+{}
+
+/// Prefixes: what an iteration of a region did is the first part of its run alone, and all of it once it is finished.
+pub fn law_of_prefixes<P, O, V>()
+    ensures { DoPrefixes P O V }
+{}
+
+/// Own cells: processes that have values of their own of some cells are processes of a machine.
+pub fn law_of_own_cells<P, O, V>()
+    ensures { Owners P O V }
+{}
+
+/// Interleaving, of the iterations of a loop: each has its own value of the loop's variable.
+pub fn law_of_interleaved_loops<P, O, V>()
+    ensures { LoopInterleaves P O V }
+{}
+
+/// Alone, of the iterations of a loop.
+pub fn law_of_loops_alone<P, O, V>()
+    ensures { LoopRunsAlone P O V }
+{}
+
+/// Whole, of the iterations of a loop.
+pub fn law_of_whole_loops<P, O, V>()
+    ensures { LoopIsWhole P O V }
+{}
