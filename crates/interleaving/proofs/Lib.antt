@@ -5,6 +5,7 @@ pub mod Begins
 pub mod Commits
 pub mod Courses
 pub mod Deeds
+pub mod Determined
 pub mod HiddenTraces
 pub mod Histories
 pub mod Kept
@@ -13,9 +14,12 @@ pub mod LoopOwners
 pub mod LoopRegions
 pub mod OwnRuns
 pub mod Owners
+pub mod Passing
 pub mod Places
 pub mod Regions
 pub mod Scripts
+pub mod Solos
 pub mod Steps
+pub mod Turning
 pub mod Variable
 pub mod Windows

@@ -4,6 +4,9 @@ pub mod Loops
 pub mod Machine
 pub mod Modes
 pub mod OwnCells
+pub mod Passing
 pub mod Prefixes
 pub mod Region
+pub mod Solo
 pub mod Traces
+pub mod Turning

@@ -6,7 +6,10 @@
 
 ghost use Rattle.interleaving.specs.Interleaving.{Interleaves, IsWhole, RunsAlone};
 ghost use Rattle.interleaving.specs.Loops.{LoopInterleaves, LoopIsWhole, LoopRunsAlone, Owners};
+ghost use Rattle.interleaving.specs.Passing.{Passes};
 ghost use Rattle.interleaving.specs.Prefixes.{DoPrefixes};
+ghost use Rattle.interleaving.specs.Solo.{AreRuns};
+ghost use Rattle.interleaving.specs.Turning.{HasOneRun, RunsTurn, TurnsCompose};
 
 /// Interleaving: where modes fit the traces of iterations that run in turn, every list of picks leaves their region without a fault; it is
 /// over after all their steps, with the store that they leave in turn.
@@ -47,4 +50,29 @@ pub fn law_of_loops_alone<P, O, V>()
 /// Whole, of the iterations of a loop.
 pub fn law_of_whole_loops<P, O, V>()
     ensures { LoopIsWhole P O V }
+{}
+
+/// Solo: the run of a process for so many steps is a run, those of a loop's iterations are runs alone, and runs with one trace leave one store.
+pub fn law_of_solo_runs<P, O, V>()
+    ensures { AreRuns P O V }
+{}
+
+/// Turning: a run from the beginning of a loop takes its iterations in turn and goes on after them, or stops inside one.
+pub fn law_of_turns<P, O, V>()
+    ensures { RunsTurn P O V }
+{}
+
+/// Composing: iterations that run in turn, and a run after them, are a run from the beginning of their loop.
+pub fn law_of_composed_turns<P, O, V>()
+    ensures { TurnsCompose P O V }
+{}
+
+/// One run: a process over a store has one run to its end, iterations run in turn in one way, and a run that stops inside one is shorter.
+pub fn law_of_one_run<P, O, V>()
+    ensures { HasOneRun P O V }
+{}
+
+/// Passing: an invariant for code that steps a process and keeps its trace; whatever goes on from here goes on from the beginning.
+pub fn law_of_passing<P, O, V>()
+    ensures { Passes P O V }
 {}
