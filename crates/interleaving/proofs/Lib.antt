@@ -9,12 +9,14 @@ pub mod Determined
 pub mod HiddenTraces
 pub mod Histories
 pub mod Kept
+pub mod ListStores
 pub mod LoopAlone
 pub mod LoopOwners
 pub mod LoopRegions
 pub mod OwnRuns
 pub mod Owners
 pub mod Passing
+pub mod Picks
 pub mod Places
 pub mod Regions
 pub mod Scripts

@@ -5,8 +5,10 @@
 #![tactic(auto)]
 
 ghost use Rattle.interleaving.specs.Interleaving.{Interleaves, IsWhole, RunsAlone};
+ghost use Rattle.interleaving.specs.ListStores.{AreStores};
 ghost use Rattle.interleaving.specs.Loops.{LoopInterleaves, LoopIsWhole, LoopRunsAlone, Owners};
 ghost use Rattle.interleaving.specs.Passing.{Passes};
+ghost use Rattle.interleaving.specs.Picks.{PicksName};
 ghost use Rattle.interleaving.specs.Prefixes.{DoPrefixes};
 ghost use Rattle.interleaving.specs.Solo.{AreRuns};
 ghost use Rattle.interleaving.specs.Turning.{HasOneRun, RunsTurn, TurnsCompose};
@@ -75,4 +77,14 @@ pub fn law_of_one_run<P, O, V>()
 /// Passing: an invariant for code that steps a process and keeps its trace; whatever goes on from here goes on from the beginning.
 pub fn law_of_passing<P, O, V>()
     ensures { Passes P O V }
+{}
+
+/// Picks: in any region that picks leave, a pick names a live unfinished iteration, and each of them is named by some pick.
+pub fn law_of_picks<P, O, V>()
+    ensures { PicksName P O V }
+{}
+
+/// List stores: what the store of a list of values is after a write to an address within the list, and after one to another.
+pub fn law_of_list_stores<V>()
+    ensures { AreStores V }
 {}
