@@ -4,7 +4,7 @@ use Rattle.interleaving.specs.Machine.{Machine, IsMachine, AreReady, Store, put}
 use Rattle.interleaving.specs.Modes.{Mode, forbids_flow, Fits}
 use Rattle.interleaving.specs.Traces.{Access, Stop, AtEnd, Runs, ended, faulted, cut, read_then, write_then, move_then, InTurn, Alone, all_at_end, is_written}
 use Rattle.interleaving.proofs.Courses.{AllUnread, unread_later}
-use Rattle.interleaving.proofs.Deeds.{value_then-unwritten}
+use Rattle.interleaving.proofs.Deeds.{accesses_of, value_then, value_then-unwritten}
 use Rattle.interleaving.proofs.Scripts.{Script, scripted}
 
 module _ {P O V : Type 0} (m : Machine P O V) where
@@ -64,3 +64,24 @@ module _ {P O V : Type 0} (m : Machine P O V) where
     alone_of laws limit (p ∷ starts) s t (trace ∷ traces) ready turn fits =
         let k : Script m modes p s trace AtEnd turn.0 = scripted m modes laws ready.0 ready.1 fits.0 turn.1 in
         (turn.0, turn.1, (λ q. absurd (cc)), alone_over laws limit starts turn.0 s traces (all_at_end traces) ready.2 (unread_after traces fits k) fits.2 (alone_of laws limit starts turn.0 t traces ready.2 turn.2 fits.2))
+
+    -- iterations that all run to their ends alone run in turn, also over another store that agrees so
+    pub in_turn_of : {Sound : P → Type 0} → IsMachine m Sound → (limit : ℕ) (starts : List P) (s t : Store V) (traces : List (List (Access O))) → AreReady m Sound starts → ((a : ℕ) → forbids_flow (modes a) ≡ true → (t a ≡ s a) ⊎ AllUnread a traces) → Fits modes traces → Alone m limit starts s traces (all_at_end traces) → (end : Store V) × InTurn m starts t traces end
+    in_turn_of laws limit [] s t [] ready agree fits alone = (t, refl)
+    in_turn_of laws limit [] s t (trace ∷ traces) ready agree fits alone = absurd alone
+    in_turn_of laws limit (p ∷ starts) s t [] ready agree fits alone = absurd alone
+    in_turn_of laws limit (p ∷ starts) s t (trace ∷ traces) ready agree fits alone =
+        let k : Script m modes p s trace AtEnd alone.0 = scripted m modes laws ready.0 ready.1 fits.0 alone.1 in
+        let again = k.again t (λ a plain. elim (agree a plain) [ inl e ↦ inl e | inr n ↦ inr n.0 ]) in
+        let rest : (end : Store V) × InTurn m starts again.0 traces end = in_turn_of laws limit starts s again.0 traces ready.2 (later k.deeds again.0 again.2 k.told) fits.2 alone.3 in
+        (rest.0, (again.0, again.1, rest.1))
+      where
+        later : (deeds : List _) (u : Store V) → ((a : ℕ) → u a ≡ value_then m (modes a) a deeds (t a)) → accesses_of deeds ≡ trace → (a : ℕ) → forbids_flow (modes a) ≡ true → (u a ≡ s a) ⊎ AllUnread a traces
+        later deeds u comes told a plain = go (is_written trace a) refl
+          where
+            go : (w : Bool) → is_written trace a ≡ w → (u a ≡ s a) ⊎ AllUnread a traces
+            go true f = inr (unread_later m modes a trace traces plain f fits.1)
+            go false f = elim (agree a plain) [
+              | inl g ↦ inl (comes a ∙ value_then-unwritten m (modes a) a deeds (t a) (ap (λ tr. is_written tr a) told ∙ f) ∙ g)
+              | inr n ↦ inr n.1
+            ]

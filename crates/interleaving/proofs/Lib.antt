@@ -2,6 +2,11 @@
 pub mod Advances
 pub mod Alone
 pub mod Begins
+pub mod BlockAlone
+pub mod BlockFits
+pub mod BlockMachine
+pub mod BlockRegions
+pub mod BlockRuns
 pub mod Commits
 pub mod Courses
 pub mod Deeds
@@ -11,6 +16,7 @@ pub mod Histories
 pub mod Kept
 pub mod ListStores
 pub mod LoopAlone
+pub mod LoopBlocks
 pub mod LoopOwners
 pub mod LoopRegions
 pub mod OwnRuns
@@ -23,5 +29,6 @@ pub mod Scripts
 pub mod Solos
 pub mod Steps
 pub mod Turning
+pub mod Unwritten
 pub mod Variable
 pub mod Windows

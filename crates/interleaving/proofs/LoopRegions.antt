@@ -13,7 +13,7 @@ use Rattle.interleaving.proofs.LoopAlone.{loop_alone_of, loop_in_turn}
 use Rattle.interleaving.proofs.LoopOwners.{the_own, OwnersInTurn, owners_in_turn, ready_owners, put_alike, owners_alone}
 use Rattle.interleaving.proofs.Owners.{is_machine_with_own}
 use Rattle.interleaving.proofs.Regions.{interleaves, is_whole}
-use Rattle.interleaving.proofs.Variable.{stands_as_at_entry}
+use Rattle.interleaving.proofs.Variable.{variable_stands}
 
 module _ (P O V : Type 0) (Sound : P → Type 0) where
   pub owners_are : OwnersWhere P O V Sound
@@ -31,7 +31,7 @@ module _ (P O V : Type 0) (Sound : P → Type 0) where
         record {
           over = r.2.over;
           store = λ e final. fun_ext (λ a. ap (λ s. put s variable final a) (r.2.store e) ∙ put_alike m variable k.end end k.others final a);
-          control = stands_as_at_entry m modes variable window picks starts entry r.0 r.1;
+          control = variable_stands m variable modes window picks starts entry r.0 r.1;
           going = r.2.going;
         },
       )

@@ -1,4 +1,6 @@
 -- The definitions that the laws cite.
+pub mod BlockLaws
+pub mod Blocks
 pub mod Interleaving
 pub mod ListStores
 pub mod Loops

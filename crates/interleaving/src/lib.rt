@@ -4,6 +4,7 @@
 //! operators `O` and of values `V`. Nothing is said of threads: a region takes one step a pick.
 #![tactic(auto)]
 
+ghost use Rattle.interleaving.specs.BlockLaws.{AreBlocks, Blocks, BlocksAreWhole, BlocksInterleave, LoopBlocksAreWhole, LoopBlocksInterleave};
 ghost use Rattle.interleaving.specs.Interleaving.{Interleaves, IsWhole, RunsAlone};
 ghost use Rattle.interleaving.specs.ListStores.{AreStores};
 ghost use Rattle.interleaving.specs.Loops.{LoopInterleaves, LoopIsWhole, LoopRunsAlone, Owners};
@@ -87,4 +88,34 @@ pub fn law_of_picks<P, O, V>()
 /// List stores: what the store of a list of values is after a write to an address within the list, and after one to another.
 pub fn law_of_list_stores<V>()
     ensures { AreStores V }
+{}
+
+/// Blocks: modes that fit the traces of iterations fit those of their blocks, whatever the size of these.
+pub fn law_of_fitting_blocks<P, O>()
+    ensures { AreBlocks P O }
+{}
+
+/// Blocks: an iteration and those after it in its block are a process of a machine.
+pub fn law_of_blocks<P, O, V>()
+    ensures { Blocks P O V }
+{}
+
+/// Interleaving, of blocks of iterations.
+pub fn law_of_interleaved_blocks<P, O, V>()
+    ensures { BlocksInterleave P O V }
+{}
+
+/// Whole, of blocks of iterations.
+pub fn law_of_whole_blocks<P, O, V>()
+    ensures { BlocksAreWhole P O V }
+{}
+
+/// Interleaving, of blocks of the iterations of a loop: each block has its own value of the loop's variable.
+pub fn law_of_interleaved_loop_blocks<P, O, V>()
+    ensures { LoopBlocksInterleave P O V }
+{}
+
+/// Whole, of blocks of the iterations of a loop.
+pub fn law_of_whole_loop_blocks<P, O, V>()
+    ensures { LoopBlocksAreWhole P O V }
 {}
