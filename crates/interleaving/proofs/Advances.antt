@@ -1,5 +1,5 @@
 -- Picks keep what is known of a region.
-use Rattle.std.proofs.Common.{ℕ, zero, suc, ◌+◌, ◌<◌, ◌≤◌, ◌%◌, ◌≡◌, ◌⊎◌, inl, inr, List, [], ◌∷◌, length, take, Option, None, Some, refl, sym, ap, ◌∙◌, subst, arith, mod-lt}
+use Rattle.std.proofs.Common.{ℕ, zero, suc, ◌+◌, ◌<◌, ◌≤◌, ◌%◌, ◌≡◌, inl, inr, List, [], ◌∷◌, length, take, Option, None, Some, refl, sym, ap, ◌∙◌, subst, arith, mod-lt}
 use mathlib.Core.Path.{fun_ext}
 use Rattle.interleaving.specs.Interleaving.{HasLeft}
 use Rattle.interleaving.specs.Machine.{Machine, IsMachine, Store}

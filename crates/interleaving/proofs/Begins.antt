@@ -1,11 +1,11 @@
 -- What is known of a region before its first step.
-use Rattle.std.proofs.Common.{ℕ, suc, ◌+◌, ◌≤◌, ◌≡◌, List, [], ◌∷◌, length, Option, None, refl, sym, ap, ◌∙◌, subst, arith}
+use Rattle.std.proofs.Common.{ℕ, suc, ◌+◌, ◌≡◌, List, [], ◌∷◌, length, None, refl, sym, ap, ◌∙◌, subst, arith}
 use Rattle.interleaving.specs.Machine.{Machine, IsMachine, AreReady, Store}
 use Rattle.interleaving.specs.Modes.{Mode, CompatibleWithAll, Fits}
 use Rattle.interleaving.specs.Prefixes.{AllDidFirst}
-use Rattle.interleaving.specs.Region.{Iteration, Region, all_fresh, begun}
-use Rattle.interleaving.specs.Traces.{Access, Stop, Cut, InTurn, Alone, all_at_end, is_exposed, is_written, steps_of, steps_of_all}
-use Rattle.interleaving.proofs.Advances.{Ends, CutLate}
+use Rattle.interleaving.specs.Region.{all_fresh, begun}
+use Rattle.interleaving.specs.Traces.{Access, Stop, InTurn, Alone, all_at_end, is_exposed, is_written, steps_of, steps_of_all}
+use Rattle.interleaving.proofs.Advances.{CutLate}
 use Rattle.interleaving.proofs.Commits.{AllStops, LeadGoes, Invariant}
 use Rattle.interleaving.proofs.Courses.{Course, traces_of, left_of, stops_of, starts_of, done_of, visible, value_at_end, OnCourse, AllOnCourse, none, going}
 use Rattle.interleaving.proofs.Deeds.{Deed, did_read, did_write, did_move, accesses_of}

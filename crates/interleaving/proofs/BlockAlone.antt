@@ -1,9 +1,9 @@
 -- Blocks run alone as far as their iterations do.
-use Rattle.std.proofs.Common.{ℕ, suc, ◌+◌, ◌≤◌, ◌≡◌, ◌⊎◌, inl, inr, List, [], ◌∷◌, ◌++◌, length, Option, refl, sym, ap, ap₂, ◌∙◌, subst, append_assoc}
+use Rattle.std.proofs.Common.{ℕ, ◌≤◌, ◌≡◌, ◌⊎◌, inl, inr, List, [], ◌∷◌, ◌++◌, length, refl, sym, ap, ap₂, ◌∙◌, subst, append_assoc}
 use Rattle.interleaving.specs.Blocks.{Block, items_of, all_items_of, in_blocks, block_trace, block_traces}
 use Rattle.interleaving.specs.Machine.{Machine, IsMachine, AreReady, Store}
-use Rattle.interleaving.specs.Modes.{Mode, forbids_flow, CompatibleWithAll, Fits}
-use Rattle.interleaving.specs.Traces.{Access, Move, Stop, AtEnd, AtFault, Cut, Runs, Alone, all_at_end}
+use Rattle.interleaving.specs.Modes.{Mode, CompatibleWithAll, Fits}
+use Rattle.interleaving.specs.Traces.{Access, Stop, AtEnd, AtFault, Cut, Runs, Alone, all_at_end}
 use Rattle.interleaving.proofs.Alone.{alone_over, unread_after}
 use Rattle.interleaving.proofs.BlockFits.{fit_so, cut_later}
 use Rattle.interleaving.proofs.BlockRuns.{then_next, last_run}

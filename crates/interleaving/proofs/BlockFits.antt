@@ -1,8 +1,8 @@
 -- Modes that fit the traces of iterations fit those of their blocks.
-use Rattle.std.proofs.Common.{ℕ, zero, suc, ◌+◌, ◌≤◌, ◌≡◌, ◌==◌, ◌⊎◌, inl, inr, Bool, true, false, List, [], ◌∷◌, ◌++◌, length, take, drop, Option, if◌then◌else◌, refl, sym, ap, ◌∙◌, subst, arith, append_assoc}
+use Rattle.std.proofs.Common.{ℕ, zero, suc, ◌+◌, ◌≤◌, ◌≡◌, ◌==◌, ◌⊎◌, inl, inr, true, false, List, [], ◌∷◌, ◌++◌, length, take, drop, if◌then◌else◌, refl, ap, ◌∙◌, arith}
 use Rattle.std.proofs.lemmas.List.{take-append-drop}
 use Rattle.interleaving.specs.BlockLaws.{AreBlocks}
-use Rattle.interleaving.specs.Blocks.{Block, items_of, all_items_of, traces_joined, block_trace, block_traces, chunked_within, chunked}
+use Rattle.interleaving.specs.Blocks.{Block, all_items_of, traces_joined, block_trace, block_traces, chunked_within}
 use Rattle.interleaving.specs.Modes.{Mode, Compatible, CompatibleWithAll, OnlyAccumulates, Fits}
 use Rattle.interleaving.specs.Traces.{Access, Read, Write, Move, is_exposed, is_written, steps_of, steps_of_all}
 

@@ -1,5 +1,5 @@
 -- The machine of blocks is a machine.
-use Rattle.std.proofs.Common.{ℕ, ◌≡◌, ◌⊎◌, inl, inr, List, [], ◌∷◌, Option, None, Some, refl, sym, ap, ◌∙◌, subst}
+use Rattle.std.proofs.Common.{ℕ, ◌≡◌, inl, inr, List, [], ◌∷◌, Option, None, Some, refl, sym, ap, ◌∙◌, subst}
 use Rattle.interleaving.specs.BlockLaws.{IsSoundBlock}
 use Rattle.interleaving.specs.Blocks.{Block, event_in_block, next_block, block_done, in_blocks}
 use Rattle.interleaving.specs.Machine.{Event, reads, writes, moves, ends, faults, Machine, IsMachine, IsReady, Accumulates, AreReady}

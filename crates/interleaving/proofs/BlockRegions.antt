@@ -1,5 +1,5 @@
 -- The laws on regions of blocks.
-use Rattle.std.proofs.Common.{ℕ, ◌+◌, ◌≡◌, inl, List, [], ◌∷◌, ◌++◌, length, Option, Some, refl, sym, ap, ◌∙◌, subst}
+use Rattle.std.proofs.Common.{◌≡◌, inl, List, [], ◌∷◌, length, refl, sym, ap, ◌∙◌, subst}
 use Rattle.interleaving.specs.BlockLaws.{IsSoundBlock, BlocksWhere, BlocksInterleaveWhere, BlocksAreWholeWhere}
 use Rattle.interleaving.specs.Blocks.{Block, items_of, all_items_of, block_traces, in_blocks}
 use Rattle.interleaving.specs.Machine.{Machine, AreReady, Store}
@@ -38,8 +38,7 @@ module _ (P O V : Type 0) (Sound : P → Type 0) where
       let ended : stops ≡ all_at_end traces = k.all whole.2 in
       let turn : (end : Store V) × InTurn m (all_items_of blocks) entry traces end = in_turn_of m modes laws limit (all_items_of blocks) entry entry traces ready (λ a plain. inl refl) fits (subst (λ l. Alone m limit (all_items_of blocks) entry traces l) ended alone) in
       let b : BlocksInTurn m blocks entry traces turn.0 = blocks_in_turn m blocks entry traces turn.0 turn.1 in
-      let same : (block_traces k.used ≡ block_traces b.groups) × (r.store ≡ turn.0) = one_way (in_blocks m) blocks entry r.store turn.0 (block_traces k.used) (block_traces b.groups) whole.0 b.in_turn in
-      (
+      let same : (block_traces k.used ≡ block_traces b.groups) × (r.store ≡ turn.0) = one_way (in_blocks m) blocks entry r.store turn.0 (block_traces k.used) (block_traces b.groups) whole.0 b.in_turn in (
         subst (InTurn m (all_items_of blocks) entry traces) (sym same.1) turn.1,
         whole.1 ∙ ap steps_of_all same.0 ∙ steps_so b.groups ∙ ap steps_of_all (sym b.split),
         ended,

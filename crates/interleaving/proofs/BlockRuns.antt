@@ -1,12 +1,9 @@
 -- Runs of blocks are those of their iterations.
-use Rattle.std.proofs.Common.{ℕ, suc, ◌+◌, ◌≤◌, ◌≡◌, ◌⊎◌, inl, inr, List, [], ◌∷◌, ◌++◌, length, Option, refl, sym, ap, ap₂, ◌∙◌, subst, arith, append_assoc, length-append}
-use Rattle.interleaving.specs.Blocks.{Block, items_of, all_items_of, event_in_block, next_block, block_done, in_blocks, traces_joined, block_trace, block_traces}
-use Rattle.interleaving.specs.Machine.{Event, reads, writes, moves, ends, faults, Machine, IsMachine, AreReady, Store, put}
-use Rattle.interleaving.specs.Modes.{Mode, Fits}
-use Rattle.interleaving.specs.Traces.{Access, Read, Write, Move, Stop, AtEnd, AtFault, Cut, Runs, ended, faulted, cut, read_then, write_then, move_then, InTurn, Alone, all_at_end}
-use Rattle.interleaving.proofs.Alone.{alone_over, unread_after}
+use Rattle.std.proofs.Common.{◌≡◌, ◌⊎◌, inl, inr, List, [], ◌∷◌, ◌++◌, refl, sym, ap, ◌∙◌, subst}
+use Rattle.interleaving.specs.Blocks.{Block, items_of, all_items_of, event_in_block, block_done, in_blocks, block_trace, block_traces}
+use Rattle.interleaving.specs.Machine.{Event, reads, writes, moves, ends, faults, Machine, Store, put}
+use Rattle.interleaving.specs.Traces.{Access, Move, Stop, AtEnd, Runs, ended, faulted, cut, read_then, write_then, move_then, InTurn}
 use Rattle.interleaving.proofs.BlockMachine.{done_by}
-use Rattle.interleaving.proofs.Scripts.{Script, scripted}
 
 module _ {P O V : Type 0} (m : Machine P O V) where
   event_so : (p : P) (later : List P) (ev : Event O V) → m.event p ≡ ev → (in_blocks m).event (record { first = p; later = later }) ≡ event_in_block ev later
@@ -76,4 +73,3 @@ module _ {P O V : Type 0} (m : Machine P O V) where
         split = k.split ∙ ap (λ r. items_of k.group ++ r) rest.split;
         in_turn = (k.middle, k.runs, rest.in_turn);
       }
-

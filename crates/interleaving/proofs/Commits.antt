@@ -1,5 +1,5 @@
 -- What is known of a region between its steps.
-use Rattle.std.proofs.Common.{ℕ, zero, suc, ◌+◌, ◌≤◌, ◌≡◌, ◌⊎◌, inl, inr, Bool, true, false, List, [], ◌∷◌, length, Option, None, Some, refl, sym, ap, ◌∙◌, subst, arith, unwrap_or}
+use Rattle.std.proofs.Common.{ℕ, suc, ◌+◌, ◌≤◌, ◌≡◌, ◌⊎◌, inl, inr, Bool, true, false, List, [], ◌∷◌, length, Option, refl, sym, ap, ◌∙◌, subst, arith, unwrap_or}
 use mathlib.Core.Path.{fun_ext}
 use Rattle.interleaving.specs.Machine.{Machine, IsMachine, Store}
 use Rattle.interleaving.specs.Modes.{Mode, Shared, Private, Reduce, CompatibleWithAll}

@@ -1,5 +1,5 @@
 -- How an iteration has come from its start, beside its run alone.
-use Rattle.std.proofs.Common.{ℕ, ◌≡◌, Bool, true, false, List, [], ◌∷◌, ◌++◌, length, Option, refl, sym, ap, ◌∙◌, subst, append-nil}
+use Rattle.std.proofs.Common.{ℕ, ◌≡◌, true, List, [], ◌∷◌, ◌++◌, length, Option, refl, ap, ◌∙◌, subst}
 use Rattle.interleaving.specs.Machine.{reads, writes, moves, Machine, Store}
 use Rattle.interleaving.specs.Modes.{Mode, Shared, Private, Reduce, forbids_flow}
 use Rattle.interleaving.specs.Prefixes.{Step, Reading, Writing, Moving, trace_of, Takes, takes_none, takes_read, takes_write, takes_move, solo_steps, AreFirst, DidFirst}

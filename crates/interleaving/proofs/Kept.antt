@@ -1,9 +1,8 @@
 -- What each step and each commit keeps, a region keeps; and what a region always is.
-use Rattle.std.proofs.Common.{ℕ, zero, suc, ◌+◌, ◌≡◌, Bool, true, false, List, [], ◌∷◌, length, Option, None, Some, if◌then◌else◌, refl, sym, ap, ◌∙◌, subst, arith}
+use Rattle.std.proofs.Common.{ℕ, zero, suc, ◌≡◌, true, false, List, [], ◌∷◌, Option, None, Some, if◌then◌else◌, refl, subst}
 use Rattle.interleaving.specs.Machine.{Machine, Store}
 use Rattle.interleaving.specs.Modes.{Mode}
-use Rattle.interleaving.specs.Region.{Iteration, Region, commit, step_by, step_at, with_before, with_after, settled, settled_from, place_of, advanced, advanced_all, all_fresh, begun}
-use Rattle.interleaving.proofs.Commits.{LeadGoes}
+use Rattle.interleaving.specs.Region.{Iteration, Region, commit, step_by, step_at, with_before, with_after, settled, settled_from, place_of, advanced, advanced_all}
 
 module _ {P O V : Type 0} (m : Machine P O V) (modes : ℕ → Mode O) (KeptStore : Store V → Type 0) (KeptIn : Iteration P V → Type 0)
     (steps : (s t : Store V) (it next : Iteration P V) → KeptStore s → KeptIn it → step_by m modes (m.event it.process) s it ≡ Some (t, next) → KeptStore t × KeptIn next)

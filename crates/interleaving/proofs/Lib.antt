@@ -1,6 +1,7 @@
 -- The lemmas.
 pub mod Advances
 pub mod Alone
+pub mod Applied
 pub mod Begins
 pub mod BlockAlone
 pub mod BlockFits
@@ -19,6 +20,7 @@ pub mod LoopAlone
 pub mod LoopBlocks
 pub mod LoopOwners
 pub mod LoopRegions
+pub mod Needed
 pub mod OwnRuns
 pub mod Owners
 pub mod Passing
@@ -26,9 +28,12 @@ pub mod Picks
 pub mod Places
 pub mod Regions
 pub mod Scripts
+pub mod SmallMachine
+pub mod SmallRuns
 pub mod Solos
 pub mod Steps
 pub mod Turning
 pub mod Unwritten
 pub mod Variable
 pub mod Windows
+pub mod WorkedLoops

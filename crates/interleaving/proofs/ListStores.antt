@@ -1,11 +1,11 @@
 -- Stores of lists.
-use Rattle.std.proofs.Common.{ℕ, zero, suc, ◌<◌, ◌≤◌, ◌≡◌, ◌≢◌, ◌==◌, true, false, List, [], ◌∷◌, length, Some, if◌then◌else◌, refl, sym, ap, ap₂, ◌∙◌, subst, arith, eqb-true, eq-eqb}
-use Rattle.std.specs.Prelude.{slice_get, slice_index_or, slice_set}
+use Rattle.std.proofs.Common.{ℕ, zero, suc, ◌<◌, ◌≡◌, ◌==◌, true, false, List, [], ◌∷◌, length, if◌then◌else◌, refl, sym, ap, ap₂, subst, arith, eqb-true, eq-eqb}
+use Rattle.std.specs.Prelude.{slice_index_or, slice_set}
 use Rattle.std.proofs.lemmas.List.{get_or-set_same, get_or-set_other, get_or_past, set_past}
 use Rattle.std.proofs.lemmas.Option.{get_or_from_slice_get}
 use mathlib.Core.Path.{fun_ext}
 use Rattle.interleaving.specs.ListStores.{store_of, AreStores}
-use Rattle.interleaving.specs.Machine.{Store, put}
+use Rattle.interleaving.specs.Machine.{put}
 
 module _ {V : Type 0} (outside : V) where
   written : (values : List V) (a : ℕ) (v : V) → a < length values → (b : ℕ) → store_of outside (slice_set values a v) b ≡ put (store_of outside values) a v b

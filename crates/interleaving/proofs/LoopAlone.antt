@@ -1,9 +1,9 @@
 -- Iterations of a loop in turn and alone.
-use Rattle.std.proofs.Common.{ℕ, ◌≤◌, ◌≡◌, ◌==◌, ◌⊎◌, inl, inr, Bool, true, false, List, [], ◌∷◌, if◌then◌else◌, refl, sym, ap, ◌∙◌}
+use Rattle.std.proofs.Common.{ℕ, ◌≡◌, ◌==◌, ◌⊎◌, inl, inr, Bool, true, false, List, [], ◌∷◌, if◌then◌else◌, refl, sym, ap, ◌∙◌}
 use Rattle.interleaving.specs.Machine.{Machine, IsMachine, AreReady, Store, put}
 use Rattle.interleaving.specs.Modes.{Mode, forbids_flow, Fits}
 use Rattle.interleaving.specs.OwnCells.{Start, processes_of, LoopInTurn, LoopAlone}
-use Rattle.interleaving.specs.Traces.{Access, Stop, AtEnd, Runs, all_at_end, is_exposed, is_written}
+use Rattle.interleaving.specs.Traces.{Access, Stop, AtEnd, all_at_end, is_exposed, is_written}
 use Rattle.interleaving.proofs.Alone.{unread_after}
 use Rattle.interleaving.proofs.Courses.{AllUnread, unread_later}
 use Rattle.interleaving.proofs.Deeds.{accesses_of, value_then, value_then-unwritten}

@@ -1,10 +1,10 @@
 -- The laws on regions of blocks of a loop's iterations.
-use Rattle.std.proofs.Common.{ℕ, ◌+◌, ◌≡◌, ◌==◌, inl, Bool, List, [], ◌∷◌, ◌++◌, length, Option, Some, refl, sym, ap, ap₂, ◌∙◌, subst}
+use Rattle.std.proofs.Common.{ℕ, ◌≡◌, inl, Bool, List, [], ◌∷◌, ◌++◌, length, Some, refl, sym, ap, ◌∙◌, subst}
 use mathlib.Core.Path.{fun_ext}
 use Rattle.interleaving.specs.BlockLaws.{LoopBlocksInterleaveWhere, LoopBlocksAreWholeWhere}
 use Rattle.interleaving.specs.Blocks.{Block, items_of, all_items_of, in_blocks, owner_blocks}
 use Rattle.interleaving.specs.Interleaving.{HasLeft}
-use Rattle.interleaving.specs.Machine.{Machine, AreReady, Store, put}
+use Rattle.interleaving.specs.Machine.{AreReady, Store, put}
 use Rattle.interleaving.specs.OwnCells.{Start, Owner, with_own, all_hidden, owner_of, owners_of, LoopInTurn, LoopAlone}
 use Rattle.interleaving.specs.Region.{Region, begun, advanced_all}
 use Rattle.interleaving.specs.Traces.{InTurn, Alone, all_at_end, steps_of_all}

@@ -1,9 +1,9 @@
 -- The laws on regions of a loop's iterations.
-use Rattle.std.proofs.Common.{ℕ, ◌+◌, ◌≡◌, ◌==◌, inl, Bool, List, length, Option, Some, refl, sym, ap, ◌∙◌, subst, eq-eqb}
+use Rattle.std.proofs.Common.{ℕ, ◌≡◌, inl, Bool, length, Some, refl, sym, ap, ◌∙◌, subst}
 use mathlib.Core.Path.{fun_ext}
 use Rattle.interleaving.specs.Interleaving.{HasLeft}
-use Rattle.interleaving.specs.Loops.{LoopHasLeft, LoopInterleavesWhere, LoopRunsAloneWhere, LoopIsWholeWhere, OwnersWhere}
-use Rattle.interleaving.specs.Machine.{Machine, Store, put}
+use Rattle.interleaving.specs.Loops.{LoopInterleavesWhere, LoopRunsAloneWhere, LoopIsWholeWhere, OwnersWhere}
+use Rattle.interleaving.specs.Machine.{Store, put}
 use Rattle.interleaving.specs.OwnCells.{Owner, with_own, all_hidden, owners_of, LoopInTurn, LoopAlone}
 use Rattle.interleaving.specs.Region.{Region, begun, advanced_all}
 use Rattle.interleaving.specs.Traces.{InTurn, all_at_end, steps_of_all}

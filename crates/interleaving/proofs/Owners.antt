@@ -1,8 +1,7 @@
 -- The machine of owners is a machine.
-use Rattle.std.proofs.Common.{ℕ, ◌≡◌, ◌==◌, inl, inr, Bool, true, false, List, ◌∷◌, Option, None, Some, if◌then◌else◌, is_some, refl, sym, ap, ◌∙◌, subst, eqb-true}
-use Rattle.interleaving.specs.Machine.{Event, reads, writes, moves, ends, faults, Machine, IsMachine, IsReady, Accumulates, Store, put}
-use Rattle.interleaving.specs.OwnCells.{Owner, event_outside, owner_resumed, owner_done, with_own, hidden}
-use Rattle.interleaving.specs.Traces.{Access, Read, Write, Move, Stop, Runs, ended, faulted, cut, read_then, write_then, move_then}
+use Rattle.std.proofs.Common.{ℕ, ◌≡◌, ◌==◌, inl, inr, true, false, Option, None, Some, if◌then◌else◌, is_some, refl, sym, ap, ◌∙◌, subst}
+use Rattle.interleaving.specs.Machine.{Event, reads, writes, moves, ends, faults, Machine, IsMachine, IsReady, Accumulates}
+use Rattle.interleaving.specs.OwnCells.{Owner, event_outside, owner_resumed, owner_done, with_own}
 
 module _ {P O V : Type 0} (m : Machine P O V) where
   -- what event the process itself has, where the owner reads, writes or moves

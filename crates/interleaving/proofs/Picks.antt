@@ -1,9 +1,9 @@
 -- What a pick names.
-use Rattle.std.proofs.Common.{ℕ, zero, suc, ◌+◌, ◌<◌, ◌≤◌, ◌%◌, ◌≡◌, Bool, true, false, List, [], ◌∷◌, length, take, Option, None, Some, if◌then◌else◌, refl, sym, ap, ◌∙◌, subst, arith, mod-lt}
+use Rattle.std.proofs.Common.{ℕ, zero, suc, ◌+◌, ◌<◌, ◌%◌, ◌≡◌, Bool, true, false, List, [], ◌∷◌, length, take, Option, None, Some, if◌then◌else◌, refl, sym, ap, ◌∙◌, subst, arith, mod-lt}
 use Rattle.std.proofs.Math.Nat.{mod-eq_of_lt}
 use Rattle.interleaving.specs.Machine.{Event, reads, writes, moves, ends, faults, Machine, Store}
 use Rattle.interleaving.specs.Modes.{Mode}
-use Rattle.interleaving.specs.Picks.{index_at, iteration_at, IsLive, Picked, picked_of, picked, replaced, with_stepped, NamesLive, ArePicks, PicksName}
+use Rattle.interleaving.specs.Picks.{index_at, iteration_at, IsLive, picked_of, picked, replaced, with_stepped, NamesLive, PicksName}
 use Rattle.interleaving.specs.Region.{Iteration, Region, step_by, step_at, commit, with_before, with_after, unfinished, settled, settled_from, place_of, advanced, advanced_all, all_fresh, begun}
 use Rattle.interleaving.proofs.Commits.{LeadGoes}
 use Rattle.interleaving.proofs.Windows.{some_unfinished}

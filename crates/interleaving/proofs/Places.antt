@@ -1,5 +1,5 @@
 -- A step of the iteration at a place.
-use Rattle.std.proofs.Common.{ℕ, zero, suc, ◌<◌, ◌≡◌, ◌⊎◌, inl, inr, true, false, List, [], ◌∷◌, length, Option, Some, refl, sym, ap, subst, arith}
+use Rattle.std.proofs.Common.{ℕ, zero, suc, ◌<◌, ◌≡◌, inr, true, false, List, [], ◌∷◌, length, Option, sym, ap, subst, arith}
 use Rattle.interleaving.specs.Machine.{Machine, Store}
 use Rattle.interleaving.specs.Modes.{Mode, CompatibleWithAll}
 use Rattle.interleaving.specs.Region.{Iteration, step_at, with_before, unfinished}

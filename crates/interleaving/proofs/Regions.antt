@@ -1,11 +1,11 @@
 -- The laws on regions of iterations.
-use Rattle.std.proofs.Common.{ℕ, zero, suc, ◌+◌, ◌<◌, ◌≤◌, ◌≡◌, true, List, [], ◌∷◌, length, Option, Some, refl, sym, ◌∙◌, subst, arith}
+use Rattle.std.proofs.Common.{ℕ, zero, ◌+◌, ◌<◌, ◌≤◌, ◌≡◌, true, List, [], ◌∷◌, length, Some, refl, sym, subst, arith}
 use Rattle.interleaving.specs.Interleaving.{HasLeft, InterleavesWhere, RunsAloneWhere, IsWholeWhere}
 use Rattle.interleaving.specs.Machine.{Machine, IsMachine, AreReady, Store}
 use Rattle.interleaving.specs.Modes.{Mode, Fits}
 use Rattle.interleaving.specs.Prefixes.{AllDidFirst, DoPrefixesWhere}
 use Rattle.interleaving.specs.Region.{Iteration, Region, begun, advanced_all}
-use Rattle.interleaving.specs.Traces.{Access, Stop, AtEnd, InTurn, Alone, all_at_end, steps_of_all}
+use Rattle.interleaving.specs.Traces.{Access, Stop, InTurn, Alone, all_at_end, steps_of_all}
 use Rattle.interleaving.proofs.Advances.{Ends, CutLate, has_left, turned, advances_all, reaches}
 use Rattle.interleaving.proofs.Alone.{in_turn_same, alone_of}
 use Rattle.interleaving.proofs.Begins.{Begins, begins_alone, end_of, first_holds}

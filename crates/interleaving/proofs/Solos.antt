@@ -1,5 +1,5 @@
 -- The run of so many steps is a run.
-use Rattle.std.proofs.Common.{ℕ, zero, suc, ◌≤◌, ◌≡◌, List, [], ◌∷◌, length, refl, ap, subst, arith}
+use Rattle.std.proofs.Common.{ℕ, zero, suc, ◌≡◌, List, [], ◌∷◌, length, refl, ap, arith}
 use Rattle.interleaving.specs.Machine.{Event, reads, writes, moves, ends, faults, Machine, Store, put}
 use Rattle.interleaving.specs.OwnCells.{Start, LoopAlone}
 use Rattle.interleaving.specs.Solo.{Solo, solo, solo_by, solos, traces_of, stops_of, AreRuns}

@@ -1,6 +1,6 @@
 -- A cell that no process writes stands in a region's store as at the entry.
-use Rattle.std.proofs.Common.{ℕ, ◌≡◌, ◌==◌, Bool, true, false, List, [], ◌∷◌, Option, None, Some, if◌then◌else◌, refl, sym, ap, ◌∙◌, subst}
-use Rattle.interleaving.specs.Machine.{Event, reads, writes, moves, ends, faults, Machine, Store, put}
+use Rattle.std.proofs.Common.{ℕ, ◌≡◌, ◌==◌, true, false, List, [], ◌∷◌, Option, None, Some, if◌then◌else◌, refl, ap, ◌∙◌, subst}
+use Rattle.interleaving.specs.Machine.{Event, reads, writes, moves, ends, faults, Machine, Store}
 use Rattle.interleaving.specs.Modes.{Mode, Shared, Private, Reduce}
 use Rattle.interleaving.specs.Region.{Iteration, Region, answer_of, merged, commit, store_after, own_after, step_by, advanced_all, all_fresh, begun}
 use Rattle.interleaving.proofs.Kept.{KeptInAll, picks_keep}

@@ -1,5 +1,5 @@
 -- Owners don't write the loop's variable, and neither do their blocks.
-use Rattle.std.proofs.Common.{ℕ, ◌≡◌, ◌==◌, Bool, true, false, List, [], ◌∷◌, Option, None, Some, if◌then◌else◌, is_some, refl, sym, ap, subst, eqb-true, eq-eqb}
+use Rattle.std.proofs.Common.{ℕ, ◌≡◌, ◌==◌, true, false, List, [], ◌∷◌, Option, None, Some, if◌then◌else◌, is_some, refl, sym, subst, eqb-true, eq-eqb}
 use Rattle.interleaving.specs.Blocks.{Block, in_blocks, next_block, block_done, owner_blocks}
 use Rattle.interleaving.specs.Machine.{Event, reads, writes, moves, ends, faults, Machine, Store}
 use Rattle.interleaving.specs.Modes.{Mode}

@@ -1,5 +1,5 @@
 -- Blocks of iterations: a machine whose process is an iteration and those after it in its block.
-use Rattle.std.specs.Prelude.{ℕ, zero, suc, ◌≡◌, List, [], ◌∷◌, ◌++◌, length, take, drop}
+use Rattle.std.specs.Prelude.{ℕ, zero, suc, List, [], ◌∷◌, ◌++◌, length, take, drop}
 use Rattle.interleaving.specs.Machine.{Event, reads, writes, moves, ends, faults, Machine}
 use Rattle.interleaving.specs.OwnCells.{Start, Owner, owner_of, owners_of}
 use Rattle.interleaving.specs.Traces.{Access, Move}

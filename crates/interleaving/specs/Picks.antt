@@ -1,5 +1,5 @@
 -- Which iteration a pick names, and what that does next.
-use Rattle.std.specs.Prelude.{ℕ, zero, suc, ◌+◌, ◌<◌, ◌≡◌, Bool, true, false, List, [], ◌∷◌, length, Option, None, Some, if◌then◌else◌}
+use Rattle.std.specs.Prelude.{ℕ, zero, suc, ◌+◌, ◌<◌, ◌≡◌, false, List, [], ◌∷◌, length, Option, None, Some, if◌then◌else◌}
 use Rattle.interleaving.specs.Machine.{Event, faults, Machine, Store}
 use Rattle.interleaving.specs.Modes.{Mode}
 use Rattle.interleaving.specs.Region.{Iteration, Region, step_by, settled_from, place_of, advanced, advanced_all, begun}
