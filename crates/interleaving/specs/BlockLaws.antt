@@ -24,36 +24,48 @@ pub record AreBlocks (P O : Type 0) : Type 0 where
   pub items_so : (more : ℕ) (items : List P) → all_items_of (chunked more items) ≡ items
 
 -- interleaving, of blocks of iterations
-abbrev pub BlocksInterleaveWhere : (P O V : Type 0) → (Sound : P → Type 0) → Type 0
-BlocksInterleaveWhere P O V Sound =
-    (m : Machine P O V) → IsMachine m Sound → (modes : ℕ → Mode O) (window : ℕ) → 0 < window →
+abbrev pub BlocksInterleaveOf : {P O V : Type 0} → Machine P O V → (Sound : P → Type 0) → Type 0
+BlocksInterleaveOf {P} {O} {V} m Sound =
+    (modes : ℕ → Mode O) (window : ℕ) → 0 < window →
     (blocks : List (Block P)) (entry end : Store V) (traces : List (List (Access O))) → AreReady m Sound (all_items_of blocks) → InTurn m (all_items_of blocks) entry traces end → Fits modes traces →
     (picks : List ℕ) (left : ℕ) → length picks + left ≡ steps_of_all traces →
     (r : Region (Block P) V) × (advanced_all (in_blocks m) modes window picks (Some (begun blocks entry)) ≡ Some r) × HasLeft r end left
 
+abbrev pub BlocksInterleaveWhere : (P O V : Type 0) → (Sound : P → Type 0) → Type 0
+BlocksInterleaveWhere P O V Sound = (m : Machine P O V) → IsMachine m Sound → BlocksInterleaveOf m Sound
+
 -- whole, of blocks of iterations
-abbrev pub BlocksAreWholeWhere : (P O V : Type 0) → (Sound : P → Type 0) → Type 0
-BlocksAreWholeWhere P O V Sound =
-    (m : Machine P O V) → IsMachine m Sound → (modes : ℕ → Mode O) (window : ℕ) → 0 < window →
+abbrev pub BlocksAreWholeOf : {P O V : Type 0} → Machine P O V → (Sound : P → Type 0) → Type 0
+BlocksAreWholeOf {P} {O} {V} m Sound =
+    (modes : ℕ → Mode O) (window : ℕ) → 0 < window →
     (limit : ℕ) (blocks : List (Block P)) (entry : Store V) (traces : List (List (Access O))) (stops : List Stop) → AreReady m Sound (all_items_of blocks) → Alone m limit (all_items_of blocks) entry traces stops → Fits modes traces →
     (picks : List ℕ) → length picks ≤ limit → (r : Region (Block P) V) → advanced_all (in_blocks m) modes window picks (Some (begun blocks entry)) ≡ Some r → r.pending ≡ [] →
     InTurn m (all_items_of blocks) entry traces r.store × (length picks ≡ steps_of_all traces) × (stops ≡ all_at_end traces)
 
+abbrev pub BlocksAreWholeWhere : (P O V : Type 0) → (Sound : P → Type 0) → Type 0
+BlocksAreWholeWhere P O V Sound = (m : Machine P O V) → IsMachine m Sound → BlocksAreWholeOf m Sound
+
 -- interleaving, of blocks of a loop's iterations
-abbrev pub LoopBlocksInterleaveWhere : (P O V : Type 0) → (Sound : P → Type 0) → Type 0
-LoopBlocksInterleaveWhere P O V Sound =
-    (m : Machine P O V) → IsMachine m Sound → (modes : ℕ → Mode O) (variable window : ℕ) → 0 < window →
+abbrev pub LoopBlocksInterleaveOf : {P O V : Type 0} → Machine P O V → (Sound : P → Type 0) → Type 0
+LoopBlocksInterleaveOf {P} {O} {V} m Sound =
+    (modes : ℕ → Mode O) (variable window : ℕ) → 0 < window →
     (blocks : List (Block (Start P V))) (entry end : Store V) (traces : List (List (Access O))) → AreReady m Sound (processes_of (all_items_of blocks)) → LoopInTurn m variable (all_items_of blocks) entry traces end → Fits modes traces →
     (picks : List ℕ) (left : ℕ) → length picks + left ≡ steps_of_all traces →
     (r : Region (Block (Owner P V)) V) × (advanced_all (in_blocks (with_own m)) modes window picks (Some (begun (owner_blocks variable blocks) entry)) ≡ Some r) × LoopHasLeft r variable entry end left
 
+abbrev pub LoopBlocksInterleaveWhere : (P O V : Type 0) → (Sound : P → Type 0) → Type 0
+LoopBlocksInterleaveWhere P O V Sound = (m : Machine P O V) → IsMachine m Sound → LoopBlocksInterleaveOf m Sound
+
 -- whole, of blocks of a loop's iterations
-abbrev pub LoopBlocksAreWholeWhere : (P O V : Type 0) → (Sound : P → Type 0) → Type 0
-LoopBlocksAreWholeWhere P O V Sound =
-    (m : Machine P O V) → IsMachine m Sound → (modes : ℕ → Mode O) (variable window : ℕ) → 0 < window →
+abbrev pub LoopBlocksAreWholeOf : {P O V : Type 0} → Machine P O V → (Sound : P → Type 0) → Type 0
+LoopBlocksAreWholeOf {P} {O} {V} m Sound =
+    (modes : ℕ → Mode O) (variable window : ℕ) → 0 < window →
     (limit : ℕ) (blocks : List (Block (Start P V))) (entry : Store V) (traces : List (List (Access O))) (stops : List Stop) → AreReady m Sound (processes_of (all_items_of blocks)) → LoopAlone m limit variable (all_items_of blocks) entry traces stops → Fits modes traces →
     (picks : List ℕ) → length picks ≤ limit → (r : Region (Block (Owner P V)) V) → advanced_all (in_blocks (with_own m)) modes window picks (Some (begun (owner_blocks variable blocks) entry)) ≡ Some r → r.pending ≡ [] →
     (end : Store V) × LoopInTurn m variable (all_items_of blocks) entry traces end × (length picks ≡ steps_of_all traces) × (stops ≡ all_at_end traces) × ((final : V) → put r.store variable final ≡ put end variable final)
+
+abbrev pub LoopBlocksAreWholeWhere : (P O V : Type 0) → (Sound : P → Type 0) → Type 0
+LoopBlocksAreWholeWhere P O V Sound = (m : Machine P O V) → IsMachine m Sound → LoopBlocksAreWholeOf m Sound
 
 -- the laws, for each test of which processes are sound
 abbrev pub Blocks : (P O V : Type 0) → Type 0

@@ -15,26 +15,35 @@ pub record LoopHasLeft {P V : Type 0} (r : Region P V) (variable : ℕ) (entry e
   pub going : 0 < left → r.pending ≡ [] → ⊥
 
 -- interleaving, of a loop's iterations
-abbrev pub LoopInterleavesWhere : (P O V : Type 0) → (Sound : P → Type 0) → Type 0
-LoopInterleavesWhere P O V Sound =
-    (m : Machine P O V) → IsMachine m Sound → (modes : ℕ → Mode O) (variable window : ℕ) → 0 < window →
+abbrev pub LoopInterleavesOf : {P O V : Type 0} → Machine P O V → (Sound : P → Type 0) → Type 0
+LoopInterleavesOf {P} {O} {V} m Sound =
+    (modes : ℕ → Mode O) (variable window : ℕ) → 0 < window →
     (starts : List (Start P V)) (entry end : Store V) (traces : List (List (Access O))) → AreReady m Sound (processes_of starts) → LoopInTurn m variable starts entry traces end → Fits modes traces →
     (picks : List ℕ) (left : ℕ) → length picks + left ≡ steps_of_all traces →
     (r : Region (Owner P V) V) × (advanced_all (with_own m) modes window picks (Some (begun (owners_of variable starts) entry)) ≡ Some r) × LoopHasLeft r variable entry end left
 
+abbrev pub LoopInterleavesWhere : (P O V : Type 0) → (Sound : P → Type 0) → Type 0
+LoopInterleavesWhere P O V Sound = (m : Machine P O V) → IsMachine m Sound → LoopInterleavesOf m Sound
+
 -- alone, of a loop's iterations
-abbrev pub LoopRunsAloneWhere : (P O V : Type 0) → (Sound : P → Type 0) → Type 0
-LoopRunsAloneWhere P O V Sound =
-    (m : Machine P O V) → IsMachine m Sound → (modes : ℕ → Mode O) (limit variable : ℕ) (starts : List (Start P V)) (entry end : Store V) (traces : List (List (Access O))) → AreReady m Sound (processes_of starts) → LoopInTurn m variable starts entry traces end → Fits modes traces →
+abbrev pub LoopRunsAloneOf : {P O V : Type 0} → Machine P O V → (Sound : P → Type 0) → Type 0
+LoopRunsAloneOf {P} {O} {V} m Sound =
+    (modes : ℕ → Mode O) (limit variable : ℕ) (starts : List (Start P V)) (entry end : Store V) (traces : List (List (Access O))) → AreReady m Sound (processes_of starts) → LoopInTurn m variable starts entry traces end → Fits modes traces →
     LoopAlone m limit variable starts entry traces (all_at_end traces)
 
+abbrev pub LoopRunsAloneWhere : (P O V : Type 0) → (Sound : P → Type 0) → Type 0
+LoopRunsAloneWhere P O V Sound = (m : Machine P O V) → IsMachine m Sound → LoopRunsAloneOf m Sound
+
 -- whole, of a loop's iterations
-abbrev pub LoopIsWholeWhere : (P O V : Type 0) → (Sound : P → Type 0) → Type 0
-LoopIsWholeWhere P O V Sound =
-    (m : Machine P O V) → IsMachine m Sound → (modes : ℕ → Mode O) (variable window : ℕ) → 0 < window →
+abbrev pub LoopIsWholeOf : {P O V : Type 0} → Machine P O V → (Sound : P → Type 0) → Type 0
+LoopIsWholeOf {P} {O} {V} m Sound =
+    (modes : ℕ → Mode O) (variable window : ℕ) → 0 < window →
     (limit : ℕ) (starts : List (Start P V)) (entry : Store V) (traces : List (List (Access O))) (stops : List Stop) → AreReady m Sound (processes_of starts) → LoopAlone m limit variable starts entry traces stops → Fits modes traces →
     (picks : List ℕ) → length picks ≤ limit → (r : Region (Owner P V) V) → advanced_all (with_own m) modes window picks (Some (begun (owners_of variable starts) entry)) ≡ Some r → r.pending ≡ [] →
     (end : Store V) × LoopInTurn m variable starts entry traces end × (length picks ≡ steps_of_all traces) × (stops ≡ all_at_end traces) × ((final : V) → put r.store variable final ≡ put end variable final)
+
+abbrev pub LoopIsWholeWhere : (P O V : Type 0) → (Sound : P → Type 0) → Type 0
+LoopIsWholeWhere P O V Sound = (m : Machine P O V) → IsMachine m Sound → LoopIsWholeOf m Sound
 
 -- own cells: the machine of owners is a machine where the other is one
 abbrev pub OwnersWhere : (P O V : Type 0) → (Sound : P → Type 0) → Type 0

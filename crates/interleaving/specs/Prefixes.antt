@@ -65,12 +65,15 @@ AllDidFirst m modes entry _ _ _ _ = ⊥
 
 -- prefixes: where modes fit the traces of iterations that run each alone for `limit` steps at most, then after any picks, no more than these,
 -- each iteration that isn't committed did the first steps of its run alone, and all of them where it is finished
-abbrev pub DoPrefixesWhere : (P O V : Type 0) → (Sound : P → Type 0) → Type 0
-DoPrefixesWhere P O V Sound =
-    (m : Machine P O V) → IsMachine m Sound → (modes : ℕ → Mode O) (window : ℕ) → 0 < window →
+abbrev pub DoPrefixesOf : {P O V : Type 0} → Machine P O V → (Sound : P → Type 0) → Type 0
+DoPrefixesOf {P} {O} {V} m Sound =
+    (modes : ℕ → Mode O) (window : ℕ) → 0 < window →
     (limit : ℕ) (starts : List P) (entry : Store V) (traces : List (List (Access O))) (stops : List Stop) → AreReady m Sound starts → Alone m limit starts entry traces stops → Fits modes traces →
     (picks : List ℕ) → length picks ≤ limit → (r : Region P V) → advanced_all m modes window picks (Some (begun starts entry)) ≡ Some r →
     AllDidFirst m modes entry r.committed starts traces r.pending
+
+abbrev pub DoPrefixesWhere : (P O V : Type 0) → (Sound : P → Type 0) → Type 0
+DoPrefixesWhere P O V Sound = (m : Machine P O V) → IsMachine m Sound → DoPrefixesOf m Sound
 
 -- for each test of which processes are sound
 abbrev pub DoPrefixes : (P O V : Type 0) → Type 0
