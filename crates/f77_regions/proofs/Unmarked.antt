@@ -17,7 +17,7 @@ use Rattle.f77_meaning.specs.Sound.{IsOf}
 use Rattle.f77_meaning.specs.Step.{event, once_done, resumed, resumed_by, print_event, write_event, do_event, increment_event, statement_event, event_at, loop_of_do}
 use Rattle.f77_meaning.proofs.Stands.{IsOf-resumed}
 use Rattle.interleaving.proofs.LoopBlocks.{loop_blocks_interleave, loop_blocks_are_whole}
-use Rattle.interleaving.proofs.LoopRegions.{loop_interleaves, loop_runs_alone, loop_is_whole}
+use Rattle.interleaving.proofs.LoopRegions.{loop_interleaves, loop_runs_alone, loop_is_whole, loop_do_prefixes}
 use Rattle.interleaving.specs.Machine.{Machine, IsMachine, IsReady}
 use Rattle.interleaving.specs.Machine as machine
 use Rattle.f77_regions.specs.Iterations.{ends_iteration, event_in, machine_of, LoopsAreMachines, RegionsHold}
@@ -124,6 +124,7 @@ regions_hold program sound ordinal apply identity associates =
       interleaving = loop_interleaves Process RedOp ℤ (λ p. IsOf program p) m laws;
       alone = loop_runs_alone Process RedOp ℤ (λ p. IsOf program p) m laws;
       whole = loop_is_whole Process RedOp ℤ (λ p. IsOf program p) m laws;
+      prefixes = loop_do_prefixes Process RedOp ℤ (λ p. IsOf program p) m laws;
       blocks_interleaving = loop_blocks_interleave Process RedOp ℤ (λ p. IsOf program p) m laws;
       blocks_whole = loop_blocks_are_whole Process RedOp ℤ (λ p. IsOf program p) m laws;
     }

@@ -11,6 +11,7 @@ use Rattle.f77_meaning.specs.Step.{event, once_done, resumed}
 use Rattle.interleaving.specs.BlockLaws.{LoopBlocksInterleaveOf, LoopBlocksAreWholeOf}
 use Rattle.interleaving.specs.Loops.{LoopInterleavesOf, LoopRunsAloneOf, LoopIsWholeOf}
 use Rattle.interleaving.specs.Machine.{Machine, IsMachine}
+use Rattle.interleaving.specs.Prefixes.{LoopDoPrefixesOf}
 use Rattle.interleaving.specs.Machine as machine
 
 -- whether a write is the one with which the loop of this ordinal ends an iteration: its incrementation processing (section 11.10.7)
@@ -52,6 +53,7 @@ pub record HoldOf (program : Program) (m : Machine Process RedOp ℤ) : Type 0 w
   pub interleaving : LoopInterleavesOf m (λ p. IsOf program p)
   pub alone : LoopRunsAloneOf m (λ p. IsOf program p)
   pub whole : LoopIsWholeOf m (λ p. IsOf program p)
+  pub prefixes : LoopDoPrefixesOf m (λ p. IsOf program p)
   pub blocks_interleaving : LoopBlocksInterleaveOf m (λ p. IsOf program p)
   pub blocks_whole : LoopBlocksAreWholeOf m (λ p. IsOf program p)
 

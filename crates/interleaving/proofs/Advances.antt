@@ -17,7 +17,7 @@ use Rattle.interleaving.proofs.Windows.{unfinished-take, some_unfinished}
 abbrev pub Ends : {O : Type 0} → Stop → List (Access O) → Type 0
 Ends stop trace = stop ≡ AtEnd
 
--- an iteration that is cut only after so many steps
+-- an iteration that, where it is cut, has taken `limit` steps at least
 abbrev pub CutLate : {O : Type 0} → (limit : ℕ) → Stop → List (Access O) → Type 0
 CutLate limit stop trace = stop ≡ Cut → limit ≤ length trace
 

@@ -76,7 +76,7 @@ module _ {P O V : Type 0} (m : Machine P O V) (modes : ℕ → Mode O) where
   lead-fresh [] = tt
   lead-fresh (p ∷ starts) = refl
 
-  -- what its units hold at the end
+  -- what its cells hold at the end
   abbrev pub end_of : {s : Store V} {starts : List P} {traces : List (List (Access O))} {stops : List Stop} → Begins s starts traces stops → Store V
   end_of {s = s} b = λ a. value_at_end m modes a b.courses (s a)
 

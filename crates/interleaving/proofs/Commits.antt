@@ -43,8 +43,8 @@ module _ {P O V : Type 0} (m : Machine P O V) (modes : ℕ → Mode O) where
       go false e = inl (past-unwritten m modes (modes a) a pre (t a) e ∙ sym (value_now-unwritten m (modes a) a pre (t a) e))
 
   module _ (Fact : Stop → List (Access O) → Type 0) (starts : List P) (entry : Store V) (traces : List (List (Access O))) (stops : List Stop) (end : Store V) where
-    -- a region that so many steps more bring to that store; iterations that aren't committed have taken some at most. Whatever runs these in
-    -- turn from the base runs all in turn from the entry, and whatever they did first all of them did first
+    -- a region that `left` more steps bring to the store `end`; its iterations that aren't committed have taken `taken` steps at most. Whatever runs
+    -- these in turn from the base runs all in turn from the entry, and what holds of the first steps of these holds of those of all
     pub record Invariant (r : Region P V) (left taken : ℕ) : Type 0 where
       pub base : Store V
       pub courses : List (Course P O V)

@@ -5,6 +5,7 @@ use Rattle.interleaving.specs.Interleaving.{HasLeft}
 use Rattle.interleaving.specs.Loops.{LoopInterleavesWhere, LoopRunsAloneWhere, LoopIsWholeWhere, OwnersWhere}
 use Rattle.interleaving.specs.Machine.{Store, put}
 use Rattle.interleaving.specs.OwnCells.{Owner, with_own, all_hidden, owners_of, LoopInTurn, LoopAlone}
+use Rattle.interleaving.specs.Prefixes.{LoopDoPrefixesWhere}
 use Rattle.interleaving.specs.Region.{Region, begun, advanced_all}
 use Rattle.interleaving.specs.Traces.{InTurn, all_at_end, steps_of_all}
 use Rattle.interleaving.proofs.Alone.{in_turn_same}
@@ -12,7 +13,7 @@ use Rattle.interleaving.proofs.HiddenTraces.{all_steps_hidden, fit_hidden, ends_
 use Rattle.interleaving.proofs.LoopAlone.{loop_alone_of, loop_in_turn}
 use Rattle.interleaving.proofs.LoopOwners.{the_own, OwnersInTurn, owners_in_turn, ready_owners, put_alike, owners_alone}
 use Rattle.interleaving.proofs.Owners.{is_machine_with_own}
-use Rattle.interleaving.proofs.Regions.{interleaves, is_whole}
+use Rattle.interleaving.proofs.Regions.{interleaves, is_whole, do_prefixes}
 use Rattle.interleaving.proofs.Variable.{variable_stands}
 
 module _ (P O V : Type 0) (Sound : P → Type 0) where
@@ -49,3 +50,8 @@ module _ (P O V : Type 0) (Sound : P → Type 0) where
       let same : OwnersInTurn m variable starts entry traces turns.0 = owners_in_turn m variable starts entry turns.0 entry traces (λ a o. refl) turns.1 in
       let store : r.store ≡ same.end = in_turn_same (with_own m) (owners_of variable starts) entry r.store same.end (all_hidden own traces) k.0 same.in_turn in
       (turns.0, turns.1, k.1 ∙ all_steps_hidden own traces, ended, λ final. fun_ext (λ a. ap (λ s. put s variable final a) store ∙ put_alike m variable same.end turns.0 same.others final a))
+
+  pub loop_do_prefixes : LoopDoPrefixesWhere P O V Sound
+  loop_do_prefixes m laws modes variable window w limit starts entry traces stops ready alone fits picks short r came =
+      let own : ℕ → Bool = the_own m variable in
+      do_prefixes (Owner P V) O V (λ q. Sound q.process) (with_own m) (is_machine_with_own m laws) modes window w limit (owners_of variable starts) entry (all_hidden own traces) stops (ready_owners m variable Sound starts ready) (owners_alone m variable limit starts entry traces stops alone) (fit_hidden own modes traces fits) picks short r came

@@ -1,4 +1,4 @@
--- The run of so many steps is a run.
+-- The run of a number of steps is a run.
 use Rattle.std.proofs.Common.{ℕ, zero, suc, ◌≡◌, List, [], ◌∷◌, length, refl, ap, arith}
 use Rattle.interleaving.specs.Machine.{Event, reads, writes, moves, ends, faults, Machine, Store, put}
 use Rattle.interleaving.specs.OwnCells.{Start, LoopAlone}

@@ -1,4 +1,4 @@
--- A cell that no process writes stands in a region's store as at the entry.
+-- A cell that no process writes holds in a region's store what it holds at the entry.
 use Rattle.std.proofs.Common.{ℕ, ◌≡◌, ◌==◌, true, false, List, [], ◌∷◌, Option, None, Some, if◌then◌else◌, refl, ap, ◌∙◌, subst}
 use Rattle.interleaving.specs.Machine.{Event, reads, writes, moves, ends, faults, Machine, Store}
 use Rattle.interleaving.specs.Modes.{Mode, Shared, Private, Reduce}

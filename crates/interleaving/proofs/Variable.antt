@@ -6,7 +6,7 @@ use Rattle.interleaving.specs.Modes.{Mode}
 use Rattle.interleaving.specs.OwnCells.{Owner, Start, owner_resumed, owner_done, with_own, owner_of, owners_of}
 use Rattle.interleaving.specs.Region.{Region, advanced_all, begun}
 use Rattle.interleaving.proofs.BlockMachine.{block_writes}
-use Rattle.interleaving.proofs.Owners.{behind_of, writes_of}
+use Rattle.interleaving.proofs.Owners.{event_of_owner, owner_writes}
 use Rattle.interleaving.proofs.Unwritten.{AllSpare, stands_as_at_entry}
 
 module _ {P O V : Type 0} (m : Machine P O V) (variable : ℕ) where
@@ -32,7 +32,7 @@ module _ {P O V : Type 0} (m : Machine P O V) (variable : ℕ) where
 
   writes_another : (q : Owner P V) (a : ℕ) (v : V) (by : Option O) → HasIt q → (with_own m).event q ≡ writes a v by → (a == variable) ≡ false
   writes_another q a v by h e =
-      let n : is_some (q.value a) ≡ false = (writes_of m q a v by (behind_of m q (writes a v by) e)).1 in
+      let n : is_some (q.value a) ≡ false = (owner_writes m q a v by (event_of_owner m q (writes a v by) e)).1 in
       (elim (a == variable) as (λ w. (a == variable) ≡ w → w ≡ false) [ true ↦ λ f. let g : is_some (q.value variable) ≡ false = subst (λ c. is_some (q.value c) ≡ false) (eqb-true a variable f) n in absurd (cc) | false ↦ λ f. refl ]) refl
 
   owner_has : (start : Start P V) → HasIt (owner_of variable start)

@@ -79,8 +79,8 @@ last_backwards = refl
 last_output : OutputPair (trace_of 4 last_entry (iteration 1 (look 4 ∷ look 0 ∷ skip ∷ copy 4 5 ∷ []))) (trace_of 4 last_entry (iteration 3 (look 4 ∷ look 2 ∷ skip ∷ copy 4 5 ∷ []))) 5
 last_output = (refl, refl)
 
--- A sum is reduced, and wraps (`S = S + A(I) - 3`; A at 0 to 3 holds 5, S at 4 holds 2 ^ 63 - 2, I at 5): it ends as the number of 64 bits
--- that stands for -9223372036854775802
+-- A sum is reduced, and wraps (`S = S + A(I) - 3`; A at 0 to 3 holds 5, S at 4 holds 2 ^ 63 - 2, I at 5): it ends as -9223372036854775802,
+-- as a number of 64 bits
 abbrev sum_modes : ℕ → Mode Operator
 sum_modes a = if a == 4 then Reduce plus else Shared
 

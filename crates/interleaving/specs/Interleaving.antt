@@ -5,7 +5,7 @@ use Rattle.interleaving.specs.Modes.{Mode, Fits}
 use Rattle.interleaving.specs.Region.{Region, begun, advanced_all}
 use Rattle.interleaving.specs.Traces.{Access, Stop, InTurn, Alone, all_at_end, steps_of_all}
 
--- a region with so many steps left: it is over where none is left, and then its store is this one
+-- a region with `left` steps to go: it is over where that is 0, and then its store is `end`
 pub record HasLeft {P V : Type 0} (r : Region P V) (end : Store V) (left : ℕ) : Type 0 where
   pub over : left ≡ 0 → r.pending ≡ []
   pub store : left ≡ 0 → r.store ≡ end

@@ -6,8 +6,8 @@ use Rattle.interleaving.specs.OwnCells.{Start, Owner, with_own, processes_of, ow
 use Rattle.interleaving.specs.Region.{Region, begun, advanced_all}
 use Rattle.interleaving.specs.Traces.{Access, Stop, all_at_end, steps_of_all}
 
--- a region of a loop with so many steps left: it is over where none is left, and its store is then this one, whatever the loop's variable is
--- set to afterwards. Until that the variable holds in the store what it holds at the entry
+-- a region of a loop with `left` steps to go: it is over where that is 0, and its store is then `end`, whatever the loop's variable is set to
+-- afterwards. Until that the variable holds in the store what it holds at the entry
 pub record LoopHasLeft {P V : Type 0} (r : Region P V) (variable : ℕ) (entry end : Store V) (left : ℕ) : Type 0 where
   pub over : left ≡ 0 → r.pending ≡ []
   pub store : left ≡ 0 → (final : V) → put r.store variable final ≡ put end variable final

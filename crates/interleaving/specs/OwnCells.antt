@@ -16,7 +16,7 @@ event_outside moves value = moves
 event_outside ends value = ends
 event_outside faults value = faults
 
--- an owner after the move that stands for a read: the answer is its value of that cell
+-- an owner after a read of a cell of its own, which is a move to all others: the answer is its value of that cell
 abbrev pub owner_resumed : {P O V : Type 0} → Machine P O V → Owner P V → (own : Option V) → Owner P V
 owner_resumed m q None = record q { process = m.done q.process }
 owner_resumed m q (Some x) = record q { process = m.resumed q.process x }

@@ -58,7 +58,7 @@ pub record NamesLive {P O V : Type 0} (m : Machine P O V) (modes : ℕ → Mode 
   pub faulted : advanced m modes window r pick ≡ None → m.event it.process ≡ faults
   pub faults_so : m.event it.process ≡ faults → advanced m modes window r pick ≡ None
 
--- what is true of picks in a region that began with so many iterations: committed ones and others are all of these; each pick names a live
+-- what is true of picks in a region that began with `count` iterations: these are the committed ones and the others; each pick names a live
 -- unfinished one, where the region isn't over; and each such iteration is named by some pick
 pub record ArePicks {P O V : Type 0} (m : Machine P O V) (modes : ℕ → Mode O) (window count : ℕ) (r : Region P V) : Type 0 where
   pub counted : r.committed + length r.pending ≡ count

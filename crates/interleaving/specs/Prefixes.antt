@@ -1,7 +1,8 @@
 -- What an iteration of a region did, beside its run alone.
-use Rattle.std.specs.Prelude.{Bool, IsTrue, ℕ, zero, suc, ◌<◌, ◌≤◌, ◌≡◌, true, List, [], ◌∷◌, ◌++◌, length, Option, Some}
+use Rattle.std.specs.Prelude.{Bool, IsTrue, ◌==◌, ℕ, zero, suc, ◌<◌, ◌≤◌, ◌≡◌, true, List, [], ◌∷◌, ◌++◌, length, Option, Some}
 use Rattle.interleaving.specs.Machine.{Event, reads, writes, moves, ends, faults, Machine, IsMachine, AreReady, Store, put}
 use Rattle.interleaving.specs.Modes.{Mode, forbids_flow, Fits}
+use Rattle.interleaving.specs.OwnCells.{Owner, Start, with_own, all_hidden, processes_of, owners_of, LoopAlone}
 use Rattle.interleaving.specs.Region.{Iteration, Region, begun, advanced_all}
 use Rattle.interleaving.specs.Traces.{Access, Read, Write, Move, Stop, Alone}
 
@@ -33,7 +34,7 @@ steps_by m moves p s go = Moving ∷ go (m.done p) s
 steps_by m ends p s go = []
 steps_by m faults p s go = []
 
--- the steps of a process alone over a store, at most so many
+-- the steps of a process alone over a store, `limit` at most
 abbrev pub solo_steps : {P O V : Type 0} → Machine P O V → (limit : ℕ) → P → Store V → List (Step O V)
 solo_steps m zero p s = []
 solo_steps m (suc limit) p s = steps_by m (m.event p) p s (λ q t. solo_steps m limit q t)
@@ -56,7 +57,7 @@ pub record DidFirst {P O V : Type 0} (m : Machine P O V) (modes : ℕ → Mode O
   pub begins : trace_of did ++ rest ≡ trace
   pub all : it.finished ≡ true → rest ≡ []
 
--- the same of each iteration that isn't committed, where so many are
+-- each iteration of a region that isn't committed did the first steps of its run alone, where `committed` others are committed
 abbrev pub AllDidFirst : {P O V : Type 0} → Machine P O V → (modes : ℕ → Mode O) → (entry : Store V) → (committed : ℕ) → List P → List (List (Access O)) → List (Iteration P V) → Type 0
 AllDidFirst m modes entry zero [] [] [] = Unit {0}
 AllDidFirst m modes entry zero (start ∷ starts) (trace ∷ traces) (it ∷ pending) = DidFirst m modes entry start trace it × AllDidFirst m modes entry zero starts traces pending
@@ -75,6 +76,20 @@ DoPrefixesOf {P} {O} {V} m Sound =
 abbrev pub DoPrefixesWhere : (P O V : Type 0) → (Sound : P → Type 0) → Type 0
 DoPrefixesWhere P O V Sound = (m : Machine P O V) → IsMachine m Sound → DoPrefixesOf m Sound
 
--- for each test of which processes are sound
+-- prefixes, of a loop's iterations: their accesses to the loop's variable are moves
+abbrev pub LoopDoPrefixesOf : {P O V : Type 0} → Machine P O V → (Sound : P → Type 0) → Type 0
+LoopDoPrefixesOf {P} {O} {V} m Sound =
+    (modes : ℕ → Mode O) (variable window : ℕ) → 0 < window →
+    (limit : ℕ) (starts : List (Start P V)) (entry : Store V) (traces : List (List (Access O))) (stops : List Stop) → AreReady m Sound (processes_of starts) → LoopAlone m limit variable starts entry traces stops → Fits modes traces →
+    (picks : List ℕ) → length picks ≤ limit → (r : Region (Owner P V) V) → advanced_all (with_own m) modes window picks (Some (begun (owners_of variable starts) entry)) ≡ Some r →
+    AllDidFirst (with_own m) modes entry r.committed (owners_of variable starts) (all_hidden (λ a. variable == a) traces) r.pending
+
+abbrev pub LoopDoPrefixesWhere : (P O V : Type 0) → (Sound : P → Type 0) → Type 0
+LoopDoPrefixesWhere P O V Sound = (m : Machine P O V) → IsMachine m Sound → LoopDoPrefixesOf m Sound
+
+-- the laws, for each test of which processes are sound
+abbrev pub LoopDoPrefixes : (P O V : Type 0) → Type 0
+LoopDoPrefixes P O V = (sound : P → Bool) → LoopDoPrefixesWhere P O V (λ p. IsTrue (sound p))
+
 abbrev pub DoPrefixes : (P O V : Type 0) → Type 0
 DoPrefixes P O V = (sound : P → Bool) → DoPrefixesWhere P O V (λ p. IsTrue (sound p))

@@ -1,4 +1,4 @@
--- The run of a process alone, for so many steps at most.
+-- The run of a process alone, for a number of steps at most.
 use Rattle.std.specs.Prelude.{ℕ, zero, suc, ◌≡◌, List, [], ◌∷◌}
 use Rattle.interleaving.specs.Machine.{Event, reads, writes, moves, ends, faults, Machine, Store, put}
 use Rattle.interleaving.specs.OwnCells.{Start, LoopAlone}
@@ -40,7 +40,7 @@ abbrev pub stops_of : {O V : Type 0} → List (Solo O V) → List Stop
 stops_of [] = []
 stops_of (run ∷ runs) = run.stop ∷ stops_of runs
 
--- solo: the run of so many steps is a run; those of a loop's iterations are the runs alone that the laws ask for; and two runs of one process
+-- solo: the run of a number of steps is a run; those of a loop's iterations are the runs alone that the laws ask for; and two runs of one process
 -- over one store that have one trace leave one store
 pub record AreRuns (P O V : Type 0) : Type 0 where
   pub is_run : (m : Machine P O V) (limit : ℕ) (p : P) (s : Store V) → Runs m p s (solo m limit p s).trace (solo m limit p s).stop (solo m limit p s).store

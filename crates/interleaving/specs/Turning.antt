@@ -38,7 +38,7 @@ pub record IsLoop {P O V : Type 0} (m : Machine P O V) (inner : P → Event O V)
   pub enters : (j : ℕ) → j < count → Inside j (entry j)
   pub steps : (j : ℕ) (p : P) → j < count → Inside j p → EndsIteration m inner variable (value (suc j)) (process_after count entry following (suc j)) p ⊎ StaysInside m inner (Inside j) p
 
--- its iterations from one on, so many
+-- `left` of its iterations, from the one after j others on
 abbrev pub starts_from : {P V : Type 0} → (value : ℕ → V) → (entry : ℕ → P) → (j left : ℕ) → List (Start P V)
 starts_from value entry j zero = []
 starts_from value entry j (suc left) = record { process = entry j; value = value j } ∷ starts_from value entry (suc j) left
@@ -55,7 +55,7 @@ stop_inside AtFault = AtFault
 stop_inside Cut = Cut
 
 module _ {P O V : Type 0} (m : Machine P O V) (inner : P → Event O V) (variable : ℕ) (count : ℕ) (value : ℕ → V) (entry : ℕ → P) (following : P) where
-  -- a run takes so many iterations in turn, and goes on after the last of them
+  -- a run takes `left` iterations in turn, after j others, and goes on after the last of them
   pub record GoesThrough (j left : ℕ) (first : Store V) (trace : List (Access O)) (stop : Stop) (t : Store V) : Type 0 where
     pub traces : List (List (Access O))
     pub rest : List (Access O)
@@ -64,7 +64,7 @@ module _ {P O V : Type 0} (m : Machine P O V) (inner : P → Event O V) (variabl
     pub in_turn : LoopInTurn (with_events m inner) variable (starts_from value entry j left) first traces end
     pub goes_on : Runs m (process_after count entry following (j + left)) (put end variable (value (j + left))) rest stop t
 
-  -- a run stops inside an iteration, after others in turn
+  -- a run stops inside an iteration, after `turns` others in turn
   pub record StopsInside (j left : ℕ) (first : Store V) (trace : List (Access O)) (stop : Stop) (t : Store V) : Type 0 where
     pub turns : ℕ
     pub fewer : turns < left

@@ -10,7 +10,7 @@ ghost use Rattle.interleaving.specs.ListStores.{AreStores};
 ghost use Rattle.interleaving.specs.Loops.{LoopInterleaves, LoopIsWhole, LoopRunsAlone, Owners};
 ghost use Rattle.interleaving.specs.Passing.{Passes};
 ghost use Rattle.interleaving.specs.Picks.{PicksName};
-ghost use Rattle.interleaving.specs.Prefixes.{DoPrefixes};
+ghost use Rattle.interleaving.specs.Prefixes.{DoPrefixes, LoopDoPrefixes};
 ghost use Rattle.interleaving.specs.Solo.{AreRuns};
 ghost use Rattle.interleaving.specs.Turning.{HasOneRun, RunsTurn, TurnsCompose};
 
@@ -55,7 +55,12 @@ pub fn law_of_whole_loops<P, O, V>()
     ensures { LoopIsWhole P O V }
 {}
 
-/// Solo: the run of a process for so many steps is a run, those of a loop's iterations are runs alone, and runs with one trace leave one store.
+/// Prefixes, of the iterations of a loop.
+pub fn law_of_loop_prefixes<P, O, V>()
+    ensures { LoopDoPrefixes P O V }
+{}
+
+/// Solo: the run of a process for a number of steps is a run, those of a loop's iterations are runs alone, and runs with one trace leave one store.
 pub fn law_of_solo_runs<P, O, V>()
     ensures { AreRuns P O V }
 {}
