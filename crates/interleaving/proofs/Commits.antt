@@ -21,7 +21,7 @@ LeadGoes [] = Unit {0}
 LeadGoes (it ∷ more) = it.finished ≡ false
 
 module _ {P O V : Type 0} (m : Machine P O V) (modes : ℕ → Mode O) where
-  -- a cell once an iteration is committed
+  -- a cell after the commit of an iteration
   merges : {Sound : P → Type 0} → IsMachine m Sound → (md : Mode O) (a : ℕ) (s t : Store V) (own : Option V) (pre : List (Deed O V)) (gs : List (Course P O V)) → md ≡ modes a → Grows m (modes a) a pre → own ≡ own_now m md a pre → s a ≡ visible m modes (past m modes pre t) gs a →
       merged m md (s a) own ≡ visible m modes (λ b. value_now m (modes b) b pre (t b)) gs a
   merges laws Shared a s t own pre gs e g k agrees = agrees ∙ visible-local m modes a (past m modes pre t) (λ b. value_now m (modes b) b pre (t b)) gs (subst (λ md. past_at m modes md a pre (t a) ≡ value_now m md a pre (t a)) e (past-shared m modes a pre (t a)))

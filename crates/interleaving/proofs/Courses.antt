@@ -8,8 +8,8 @@ use Rattle.interleaving.proofs.Deeds.{Deed, did_read, did_write, did_move, acces
 use Rattle.interleaving.proofs.Histories.{History}
 use Rattle.interleaving.proofs.Scripts.{Follows, Again}
 
--- an iteration as it runs alone: the process that it began with, what it has done, the newest step first, what it will do, its whole
--- trace, how it stops, and how many steps are left with the one that ends it
+-- the course of an iteration: the process that it began with; the deeds that are done, the newest first, and those that are left; the trace of
+-- its run alone and how that stops; and the number of steps that are left, the one that ends it counted
 pub record Course (P O V : Type 0) : Type 0 where
   pub start : P
   pub pre : List (Deed O V)
@@ -34,7 +34,7 @@ abbrev pub starts_of : {P O V : Type 0} → List (Course P O V) → List P
 starts_of [] = []
 starts_of (g ∷ gs) = g.start ∷ starts_of gs
 
--- how many steps are done, but for those that end an iteration
+-- the number of steps that are done, but for those that end an iteration
 abbrev pub done_of : {P O V : Type 0} → List (Course P O V) → ℕ
 done_of [] = 0
 done_of (g ∷ gs) = length g.pre + done_of gs
@@ -53,7 +53,7 @@ AllUnread a [] = Unit {0}
 AllUnread a (trace ∷ traces) = (is_exposed trace a ≡ true → ⊥) × AllUnread a traces
 
 module _ {P O V : Type 0} (m : Machine P O V) (modes : ℕ → Mode O) where
-  -- where a cell is shared, a write is seen by the iterations after it at once
+  -- a write of a shared cell is seen by later iterations at once, one of another cell isn't
   abbrev pub written_through : Mode O → (v x : V) → V
   written_through Shared v x = v
   written_through _ v x = x
@@ -64,22 +64,22 @@ module _ {P O V : Type 0} (m : Machine P O V) (modes : ℕ → Mode O) where
   past_at md a (did_write b v by added ∷ pre) x = if b == a then written_through md v (past_at md a pre x) else past_at md a pre x
   past_at md a (did_move ∷ pre) x = past_at md a pre x
 
-  -- a store past what an iteration has done
+  -- a store past the deeds that an iteration has done
   abbrev pub past : List (Deed O V) → Store V → Store V
   past pre t = λ a. past_at (modes a) a pre (t a)
 
-  -- a store past what all have done
+  -- a store past the deeds that all have done: what the region's store holds
   abbrev pub visible : Store V → List (Course P O V) → Store V
   visible t [] = t
   visible t (g ∷ gs) = visible (past g.pre t) gs
 
-  -- what the cells come to where the iterations do the rest in turn
+  -- the value of a cell where iterations do the rest in turn
   abbrev pub value_at_end : ℕ → List (Course P O V) → V → V
   value_at_end a [] x = x
   value_at_end a (g ∷ gs) x = value_at_end a gs (value_then m (modes a) a g.rest (value_now m (modes a) a g.pre x))
 
-  -- what is known of an iteration over a store past those before it: what it has of its own; what it may still read before it
-  -- writes it, and what it has written and will write, its trace knows; and what it will read has its value
+  -- what is known of an iteration over a store past those before it: its copies and partials are what its deeds made them; its trace has what it
+  -- may still read before it writes it, and what it has written and will write; and what it will read has its value
   pub record OnCourse (t : Store V) (start : P) (own : ℕ → Option V) (pre rest : List (Deed O V)) (trace : List (Access O)) (stop : Stop) : Type 0 where
     pub keeps : (a : ℕ) → own a ≡ own_now m (modes a) a pre
     pub may_read : (a : ℕ) → is_written (accesses_of pre) a ≡ false → is_exposed (accesses_of rest) a ≡ true → is_exposed trace a ≡ true
@@ -155,7 +155,7 @@ module _ {P O V : Type 0} (m : Machine P O V) (modes : ℕ → Mode O) where
   visible-unwritten a {t = t} (going {pre = pre} {trace = trace} st hist f compatible more) h = visible-unwritten a more h.1 ∙ past-unwritten (modes a) a pre (t a) (not_written trace (accesses_of pre) a (st.has_written a) h.0)
   visible-unwritten a {t = t} (gone {pre = pre} {trace = trace} st hist compatible more) h = visible-unwritten a more h.1 ∙ past-unwritten (modes a) a pre (t a) (not_written trace (accesses_of pre) a (st.has_written a) h.0)
 
-  -- stores that agree on each cell but for those that none reads before it writes them
+  -- stores that agree in each cell that one of the iterations reads before it writes it
   abbrev pub Agree : (t u : Store V) → List (Course P O V) → Type 0
   Agree t u gs = (a : ℕ) → forbids_flow (modes a) ≡ true → (t a ≡ u a) ⊎ AllUnread a (traces_of gs)
 

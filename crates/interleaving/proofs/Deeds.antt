@@ -1,4 +1,4 @@
--- What the steps of one iteration do to one cell.
+-- What the deeds of one iteration do to one cell.
 use Rattle.std.proofs.Common.{ℕ, ◌≡◌, ◌==◌, true, false, List, [], ◌∷◌, Option, None, Some, if◌then◌else◌, refl, sym, ap, ◌∙◌, subst, eqb-true, eq-eqb, unwrap_or}
 use Rattle.interleaving.specs.Machine.{Machine}
 use Rattle.interleaving.specs.Modes.{Mode, Shared, Private, Reduce, forbids_flow}
@@ -6,8 +6,8 @@ use Rattle.interleaving.specs.Traces.{Access, Read, Write, Move, is_exposed, is_
 use Rattle.interleaving.specs.Prefixes.{Step, Reading, Writing, Moving}
 use Rattle.interleaving.specs.Region.{merged}
 
--- a step as it is in the sequential run: a read with what it finds, a write with its value and, where it is of an accumulation,
--- with what it adds
+-- a deed: a step of an iteration's run alone, with the value that a read finds there, and with the value of a write and, where it is of an
+-- accumulation, what that adds
 pub data Deed (O V : Type 0) : Type 0 where
   did_read : (a : ℕ) (x : V) (by : Option O) → Deed O V
   did_write : (a : ℕ) (v : V) (by : Option O) (added : V) → Deed O V
@@ -19,7 +19,7 @@ accesses_of (did_read a x by ∷ deeds) = Read a by ∷ accesses_of deeds
 accesses_of (did_write a v by added ∷ deeds) = Write a by ∷ accesses_of deeds
 accesses_of (did_move ∷ deeds) = Move ∷ accesses_of deeds
 
--- with its values as the sequential run has them
+-- the steps of deeds, with the values of the run alone
 abbrev pub steps_in : {O V : Type 0} → List (Deed O V) → List (Step O V)
 steps_in [] = []
 steps_in (did_read a x by ∷ deeds) = Reading a by x ∷ steps_in deeds
@@ -27,7 +27,7 @@ steps_in (did_write a v by added ∷ deeds) = Writing a by v ∷ steps_in deeds
 steps_in (did_move ∷ deeds) = Moving ∷ steps_in deeds
 
 module _ {P O V : Type 0} (m : Machine P O V) where
-  -- the value of a cell after a write to it, in the sequential run
+  -- what a write leaves in a cell that holds x, where iterations run in turn
   abbrev pub value_left : Mode O → (v added x : V) → V
   value_left (Reduce o) v added x = m.apply o x added
   value_left _ v added x = v
@@ -37,17 +37,17 @@ module _ {P O V : Type 0} (m : Machine P O V) where
   effect md a (did_write b v by added) x = if b == a then value_left md v added x else x
   effect md a did_move x = x
 
-  -- the value of a cell after what is done, the newest first
+  -- the value of a cell after deeds that are done, the newest first
   abbrev pub value_now : Mode O → ℕ → List (Deed O V) → V → V
   value_now md a [] x = x
   value_now md a (deed ∷ pre) x = effect md a deed (value_now md a pre x)
 
-  -- the value of a cell after what is left to do
+  -- the value of a cell after deeds that are left, the next one first
   abbrev pub value_then : Mode O → ℕ → List (Deed O V) → V → V
   value_then md a [] x = x
   value_then md a (deed ∷ rest) x = value_then md a rest (effect md a deed x)
 
-  -- what an iteration has of its own after what it did
+  -- the copy or partial of an iteration after a write, and after deeds that are done
   abbrev pub own_with : Mode O → (v added : V) → Option V → Option V
   own_with Shared v added own = own
   own_with Private v added own = Some v
@@ -59,7 +59,7 @@ module _ {P O V : Type 0} (m : Machine P O V) where
   own_now md a (did_write b v by added ∷ pre) = if b == a then own_with md v added (own_now md a pre) else own_now md a pre
   own_now md a (did_move ∷ pre) = own_now md a pre
 
-  -- what a read is answered in the region, and what a write writes there
+  -- what a read answers in the region, and what a write writes there
   abbrev pub heard : Mode O → V → Option V → V
   heard (Reduce o) x own = unwrap_or own (m.identity o)
   heard _ x own = x
@@ -68,7 +68,7 @@ module _ {P O V : Type 0} (m : Machine P O V) where
   said (Reduce o) v added own = m.apply o (unwrap_or own (m.identity o)) added
   said _ v added own = v
 
-  -- each read of a cell finds its value
+  -- each read of a cell by deeds that are left finds its value
   abbrev pub Sees : Mode O → ℕ → List (Deed O V) → V → Type 0
   Sees md a [] x = Unit {0}
   Sees md a (did_read b y by ∷ rest) x = (b ≡ a → y ≡ x) × Sees md a rest x
@@ -121,7 +121,7 @@ module _ {P O V : Type 0} (m : Machine P O V) where
         | false ↦ λ e f. sees-unread md a rest x y p e f
       ]) h s
 
-  -- a copy is committed
+  -- the commit of a copy leaves what the deeds leave
   pub commits-copy : (a : ℕ) (pre : List (Deed O V)) (x : V) → unwrap_or (own_now Private a pre) x ≡ value_now Private a pre x
   commits-copy a [] x = refl
   commits-copy a (did_read b y by ∷ pre) x = commits-copy a pre x
@@ -130,7 +130,7 @@ module _ {P O V : Type 0} (m : Machine P O V) where
       elim (b == a) as (λ t. unwrap_or (if t then Some v else own_now Private a pre) x ≡ (if t then v else value_now Private a pre x))
       [ true ↦ refl | false ↦ commits-copy a pre x ]
 
-  -- what is added to the identity, where a cell is reduced, is added as such
+  -- what is combined with the identity of a reduced cell counts as it does by itself
   abbrev pub Grows : Mode O → ℕ → List (Deed O V) → Type 0
   Grows md a [] = Unit {0}
   Grows md a (did_read b y by ∷ deeds) = Grows md a deeds
@@ -142,7 +142,7 @@ module _ {P O V : Type 0} (m : Machine P O V) where
   with_one associates o added x None z h e = h x ∙ ap (λ w. m.apply o w added) e
   with_one associates o added x (Some q) z h e = sym (associates o x q added) ∙ ap (λ w. m.apply o w added) e
 
-  -- a partial is committed
+  -- the commit of a partial leaves what the deeds leave
   pub commits-partial : ((o : O) (x y z : V) → m.apply o (m.apply o x y) z ≡ m.apply o x (m.apply o y z)) → (o : O) (a : ℕ) (pre : List (Deed O V)) (x : V) → Grows (Reduce o) a pre → merged m (Reduce o) x (own_now (Reduce o) a pre) ≡ value_now (Reduce o) a pre x
   commits-partial associates o a [] x g = refl
   commits-partial associates o a (did_read b y by ∷ pre) x g = commits-partial associates o a pre x g

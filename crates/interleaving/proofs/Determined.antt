@@ -87,7 +87,7 @@ module _ {P O V : Type 0} (m : Machine P O V) where
         by (shorter l h) rest = absurd (cc)
 
   module _ (variable : ℕ) (value : ℕ → V) (entry : ℕ → P) where
-    -- where all come to their end, a run that stops inside one of them is cut before
+    -- where all come to their ends, a run that stops inside one of them is cut before that
     pub cut_short : (turns left j : ℕ) (s end before t : Store V) (traces others : List (List (Access O))) (trace : List (Access O)) (stop : Stop) → turns < left → LoopInTurn m variable (starts_from value entry j left) s traces end → LoopInTurn m variable (starts_from value entry j turns) s others before → Runs m (entry (j + turns)) (put before variable (value (j + turns))) trace stop t → (stop ≡ AtEnd → ⊥) → (stop ≡ Cut) × (steps_of_all others + length trace < steps_of_all traces)
     cut_short turns zero j s end before t traces others trace stop h e f r n = absurd (omega (arith, h))
     cut_short turns (suc left) j s end before t [] others trace stop h e f r n = absurd e

@@ -8,7 +8,7 @@ module _ (own : ℕ → Bool) where
   same_unit : (a b : ℕ) → own a ≡ true → own b ≡ false → (b == a) ≡ false
   same_unit a b o n = (elim (b == a) as (λ w. (b == a) ≡ w → w ≡ false) [ true ↦ λ e. let g : own a ≡ false = subst (λ c. own c ≡ false) (eqb-true b a e) n in absurd (cc) | false ↦ λ e. refl ]) refl
 
-  -- one step of the two lemmas below, by whether its cell is one's own
+  -- the first access of a trace, by whether its cell is one's own
   step_own : (a b : ℕ) (x y : Bool) → own a ≡ true → y ≡ false → (if own b then y else (if b == a then x else y)) ≡ false
   step_own a b x y o e = (elim (own b) as (λ w. own b ≡ w → (if w then y else (if b == a then x else y)) ≡ false)
       [ true ↦ λ f. e | false ↦ λ f. ap (λ t. if t then x else y) (same_unit a b o f) ∙ e ]) refl
@@ -21,7 +21,7 @@ module _ (own : ℕ → Bool) where
       unlike f = (elim (b == a) as (λ w. (b == a) ≡ w → w ≡ false) [ true ↦ λ e. let g : own a ≡ true = subst (λ c. own c ≡ true) (eqb-true b a e) f in absurd (cc) | false ↦ λ e. refl ]) refl
 
 module _ {O : Type 0} (own : ℕ → Bool) where
-  -- a hidden access to a cell of one's own is no access, and any other is as it was
+  -- an access to a cell of one's own is none once it is hidden, and any other stays
   hide_read : (a b : ℕ) (by : Option O) (trace : List (Access O)) → is_exposed ((if own b then Move else Read b by) ∷ trace) a ≡ (if own b then is_exposed trace a else (if b == a then true else is_exposed trace a))
   hide_read a b by trace = elim (own b) as (λ w. is_exposed ((if w then Move else Read b by) ∷ trace) a ≡ (if w then is_exposed trace a else (if b == a then true else is_exposed trace a))) [ true ↦ refl | false ↦ refl ]
 

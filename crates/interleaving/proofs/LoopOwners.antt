@@ -17,7 +17,7 @@ module _ {P O V : Type 0} (m : Machine P O V) (variable : ℕ) where
   pub alike_first : (u s : Store V) (v : V) → ((a : ℕ) → the_own a ≡ false → u a ≡ s a) → (a : ℕ) → the_own a ≡ false → u a ≡ put s variable v a
   alike_first u s v h a o = h a o ∙ sym (ap (λ w. if w then v else s a) o)
 
-  -- the iterations of a loop in turn are those of their owners
+  -- iterations of a loop that run in turn: their owners run in turn
   pub record OwnersInTurn (starts : List (Start P V)) (u : Store V) (traces : List (List (Access O))) (t : Store V) : Type 0 where
     pub end : Store V
     pub in_turn : InTurn (with_own m) (owners_of variable starts) u (all_hidden the_own traces) end
@@ -40,7 +40,7 @@ module _ {P O V : Type 0} (m : Machine P O V) (variable : ℕ) where
   pub put_alike : (s t : Store V) → ((a : ℕ) → the_own a ≡ false → s a ≡ t a) → (stop : V) (a : ℕ) → put s variable stop a ≡ put t variable stop a
   put_alike s t h stop a = (elim (variable == a) as (λ w. (variable == a) ≡ w → (if w then stop else s a) ≡ (if w then stop else t a)) [ true ↦ λ e. refl | false ↦ λ e. h a e ]) refl
 
-  -- iterations that run each alone are those of their owners
+  -- iterations of a loop that run each alone: their owners do
   pub owners_alone : (limit : ℕ) (starts : List (Start P V)) (s : Store V) (traces : List (List (Access O))) (stops : List Stop) → LoopAlone m limit variable starts s traces stops → Alone (with_own m) limit (owners_of variable starts) s (all_hidden the_own traces) stops
   owners_alone limit [] s [] [] alone = tt
   owners_alone limit [] s [] (stop ∷ stops) alone = absurd alone

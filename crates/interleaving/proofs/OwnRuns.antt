@@ -5,7 +5,7 @@ use Rattle.interleaving.specs.OwnCells.{Owner, event_outside, owner_resumed, own
 use Rattle.interleaving.specs.Traces.{Access, Read, Write, Move, Stop, Runs, ended, faulted, cut, read_then, write_then, move_then}
 
 module _ {P O V : Type 0} (m : Machine P O V) where
-  -- a run over a store whose cells have these values, and of its owner over one that agrees in all other cells
+  -- the run of an owner over a store that agrees, in all cells that aren't its own, with the one over which its process runs
   pub record Owned (own : ℕ → Bool) (p : P) (s : Store V) (value : ℕ → Option V) (u : Store V) (trace : List (Access O)) (stop : Stop) (t : Store V) : Type 0 where
     pub end : Store V
     pub iterates : Runs (with_own m) (record { process = p; value = value }) u (hidden own trace) stop end

@@ -4,7 +4,7 @@ use Rattle.interleaving.specs.Machine.{Event, reads, writes, moves, ends, faults
 use Rattle.interleaving.specs.OwnCells.{Owner, event_outside, owner_resumed, owner_done, with_own}
 
 module _ {P O V : Type 0} (m : Machine P O V) where
-  -- what event the process itself has, where the owner reads, writes or moves
+  -- the event of an owner, by that of its process
   pub data OwnerEvent (q : Owner P V) : Event O V → Type 0 where
     of_read : (a : ℕ) (by : Option O) → m.event q.process ≡ reads a by → is_some (q.value a) ≡ false → OwnerEvent q (reads a by)
     of_write : (a : ℕ) (v : V) (by : Option O) → m.event q.process ≡ writes a v by → is_some (q.value a) ≡ false → OwnerEvent q (writes a v by)
@@ -21,7 +21,6 @@ module _ {P O V : Type 0} (m : Machine P O V) where
   owner_event q ends e = of_end e
   owner_event q faults e = of_fault e
 
-  -- the event of an owner, by that of its process
   pub event_of_owner : (q : Owner P V) (ev : Event O V) → (with_own m).event q ≡ ev → OwnerEvent q ev
   event_of_owner q ev e = subst (OwnerEvent q) e (owner_event q (m.event q.process) refl)
 
@@ -93,7 +92,7 @@ module _ {P O V : Type 0} (m : Machine P O V) where
     begins = adds.begins;
   }
 
-  -- a machine with cells of its own is a machine
+  -- the machine of owners is a machine
   pub is_machine_with_own : {Sound : P → Type 0} → IsMachine m Sound → IsMachine (with_own m) (λ q. Sound q.process)
   is_machine_with_own {Sound} laws = record {
     sound_resumed = λ q a by x sound e. laws.sound_resumed q.process a by x sound (owner_reads q a by (event_of_owner q (reads a by) e)).0;

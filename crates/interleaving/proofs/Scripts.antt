@@ -1,4 +1,4 @@
--- What an iteration does in a region, whatever its partials hold.
+-- The script of an iteration: what it does in a region, whatever its partials hold.
 use Rattle.std.proofs.Common.{ℕ, suc, length, ◌≡◌, ◌==◌, ◌⊎◌, inl, inr, true, false, List, [], ◌∷◌, Option, None, Some, if◌then◌else◌, refl, sym, ap, ◌∙◌, subst, eqb-true, eq-eqb, unwrap_or}
 use Rattle.interleaving.specs.Machine.{Event, reads, writes, moves, ends, faults, Machine, IsMachine, IsReady, Accumulates, Store, put}
 use Rattle.interleaving.specs.Modes.{Mode, Shared, Private, Reduce, forbids_flow, OnlyAccumulates}
@@ -7,8 +7,8 @@ use Rattle.interleaving.specs.Traces.{Access, Read, Write, Move, Stop, AtEnd, At
 use Rattle.interleaving.proofs.Deeds.{Deed, did_read, did_write, did_move, accesses_of, steps_in, value_left, effect, value_then, own_now, heard, said, Sees, Grows}
 
 module _ {P O V : Type 0} (m : Machine P O V) (modes : ℕ → Mode O) where
-  -- a process that has done some steps, the newest first, does these next and then comes to its end, where each of its reads of a
-  -- cell that is reduced is answered by its partial, and any other is answered as in the sequential run
+  -- a process that has done some deeds, the newest first, does these next and then stops so, where a read of a reduced cell answers its
+  -- partial, and any other read answers as in its run alone
   pub data Follows : P → List (Deed O V) → List (Deed O V) → Stop → Type 0 where
     ending : {p : P} {pre : List (Deed O V)} → m.event p ≡ ends → Follows p pre [] AtEnd
     failing : {p : P} {pre : List (Deed O V)} → m.event p ≡ faults → Follows p pre [] AtFault
@@ -17,15 +17,15 @@ module _ {P O V : Type 0} (m : Machine P O V) (modes : ℕ → Mode O) where
     putting : {p : P} {pre rest : List (Deed O V)} {stop : Stop} (a : ℕ) (v : V) (by : Option O) (added : V) → m.event p ≡ writes a (said m (modes a) v added (own_now m (modes a) a pre)) by → Follows (m.done p) (did_write a v by added ∷ pre) rest stop → Follows p pre (did_write a v by added ∷ rest) stop
     turning : {p : P} {pre rest : List (Deed O V)} {stop : Stop} → m.event p ≡ moves → Follows (m.done p) (did_move ∷ pre) rest stop → Follows p pre (did_move ∷ rest) stop
 
-  -- stores that agree on each plain cell that an iteration reads before it writes it
+  -- stores that agree in each cell that an iteration reads before it writes it, but for reduced ones
   abbrev pub AgreeFor : (t s : Store V) → List (Access O) → Type 0
   AgreeFor t s trace = (a : ℕ) → forbids_flow (modes a) ≡ true → (t a ≡ s a) ⊎ (is_exposed trace a ≡ true → ⊥)
 
-  -- a process that takes these steps over a store takes them over each store that agrees so, and comes to its end there
+  -- a process that has this trace over a store has it over each store that agrees so, and stops there in the same way
   abbrev pub Again : P → Store V → List (Access O) → Stop → (ℕ → V → V) → Type 0
   Again p s trace stop comes = (t : Store V) → AgreeFor t s trace → (u : Store V) × Runs m p t trace stop u × ((a : ℕ) → u a ≡ comes a (t a))
 
-  -- the steps that a process makes over a store
+  -- the deeds of a process over a store: what it does whatever it did before, what its reads find, and what it leaves
   pub record Script (p : P) (s : Store V) (trace : List (Access O)) (stop : Stop) (t : Store V) : Type 0 where
     pub deeds : List (Deed O V)
     pub told : accesses_of deeds ≡ trace
@@ -95,7 +95,7 @@ module _ {P O V : Type 0} (m : Machine P O V) (modes : ℕ → Mode O) where
   plain_of Private h = refl
   plain_of (Reduce o) h = absurd (h o refl)
 
-  -- the first of the steps alone, by its event
+  -- the steps alone, by the first event
   by_event : (p : P) (s : Store V) (n : ℕ) (ev : Event O V) → m.event p ≡ ev → solo_steps m (suc n) p s ≡ steps_by m ev p s (λ q t. solo_steps m n q t)
   by_event p s n ev e = ap (λ ev. steps_by m ev p s (λ q t. solo_steps m n q t)) e
 

@@ -10,7 +10,7 @@ use Rattle.interleaving.proofs.Scripts.{Follows, ending, failing, stopping, look
 use Rattle.interleaving.proofs.Courses.{Course, traces_of, left_of, stops_of, starts_of, done_of, StopsSo, AllUnread, past, past_at, written_through, visible, value_at_end, OnCourse, AllOnCourse, going, gone, unwritten_later, unread_later, past-own, past-shared, visible-local, visible-own, visible-unwritten, Agree, on_course_over}
 
 module _ {P O V : Type 0} (m : Machine P O V) (modes : ℕ → Mode O) (entry : Store V) where
-  -- what a step of a region comes to, over what was known of it
+  -- what a step of a region gives, over what was known of it
   pub record Stepped (t : Store V) (came : Option (Store V × List (Iteration P V))) (gs : List (Course P O V)) : Type 0 where
     pub store : Store V
     pub pending : List (Iteration P V)
@@ -31,7 +31,7 @@ module _ {P O V : Type 0} (m : Machine P O V) (modes : ℕ → Mode O) (entry : 
     fails : came ≡ None → StopsSo AtFault gs → StepGives t came gs
     cuts : StopsSo Cut gs → StepGives t came gs
 
-  -- a read is answered as it is to be
+  -- a read in the region answers as the script has it
   answer : (md : Mode O) (a : ℕ) (x s t : V) (own : Option V) (pre : List (Deed O V)) → own ≡ own_now m md a pre → (forbids_flow md ≡ true → x ≡ value_now m md a pre t) → (md ≡ Shared → s ≡ past_at m modes Shared a pre t) → ((md ≡ Shared → ⊥) → s ≡ t) → answer_of m md s own ≡ heard m md x (own_now m md a pre)
   answer Shared a x s t own pre k sees sh pr = sh refl ∙ past-shared m modes a pre t ∙ sym (sees refl)
   answer Private a x s t own pre k sees sh pr = ap (λ w. unwrap_or w s) k ∙ ap (λ w. unwrap_or (own_now m Private a pre) w) (pr (λ q. cc)) ∙ commits-copy m a pre t ∙ sym (sees refl)
@@ -104,7 +104,7 @@ module _ {P O V : Type 0} (m : Machine P O V) (modes : ℕ → Mode O) (entry : 
       later : (b : ℕ) → (if a == b then true else is_written (accesses_of pre) b) ≡ true → is_written trace b ≡ true
       later b = (elim (a == b) as (λ t. ((if t then true else is_written (accesses_of rest) b) ≡ true → is_written trace b ≡ true) → (if t then true else is_written (accesses_of pre) b) ≡ true → is_written trace b ≡ true) [ true ↦ λ h w. h refl | false ↦ λ h w. st.has_written b w ]) (st.will b)
 
-  -- the iteration writes the cell that it comes to
+  -- the trace has the write that comes next
   combines : (t : Store V) (start : P) (own : ℕ → Option V) (pre rest : List (Deed O V)) (trace : List (Access O)) (stop : Stop) (a : ℕ) (v : V) (by : Option O) (added : V) → OnCourse m modes t start own pre (did_write a v by added ∷ rest) trace stop → is_written trace a ≡ true
   combines t start own pre rest trace stop a v by added st = st.will a (subst (λ t. (if t then true else is_written (accesses_of rest) a) ≡ true) (sym (eq-eqb a a refl)) refl)
 

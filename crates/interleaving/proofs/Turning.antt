@@ -63,7 +63,7 @@ module _ {P O V : Type 0} (m : Machine P O V) (inner : P → Event O V) (variabl
     | inr stay ↦ step_before Move (λ tr l w q. move_then (stay.same ∙ ap event_inside e) q) (iteration (stay.moving e) r)
   ]
 
-  -- an iteration before what comes after it
+  -- an iteration and what follows it are a run
   iterate_before : {p : P} {s u t : Store V} {first rest : List (Access O)} {first_stop stop : Stop} → first_stop ≡ AtEnd → Inside p → Runs (with_events m inner) p s first first_stop u → Runs m next (put u variable value) rest stop t → Runs m p s (first ++ Write variable None ∷ rest) stop t
   iterate_before {p = p} {s = s} {t = t} {rest = rest} {stop = stop} h i (ended e) r = elim (steps p i) [
     | inl turn ↦ write_then variable value None turn.writes_it (subst (λ q. Runs m q (put s variable value) rest stop t) (sym turn.then_is) r)
@@ -116,7 +116,7 @@ module _ {P O V : Type 0} (m : Machine P O V) (inner : P → Event O V) (variabl
   abbrev then_at : ℕ → P
   then_at j = process_after count entry following j
 
-  -- an iteration that is there begins so
+  -- the process after j iterations begins the next one, where there is one
   begins_so : (j : ℕ) → j < count → then_at j ≡ entry j
   begins_so j h = let b : nat_lt j count ≡ true = grind (arith, h) in ap (λ t. if t then entry j else following) b
 
