@@ -1,13 +1,14 @@
 //! Cases of the front end, read from files and judged: what each source makes is shown, and compared with what is wanted.
 //!
-//! A file's name says what is shown of its cases: `cards.rows`, `exprs.rows`, `statements.rows`, `shape.rows`,
-//! `operands.rows`, `loops.rows` and `layout.rows`. A line for each file is printed, and each case that differs. The exit
+//! A file's name says what is shown of its cases: `cards.rows`, `exprs.rows`, `trees.rows`, `statements.rows`,
+//! `shape.rows`, `operands.rows`, `loops.rows` and `layout.rows`. A line for each file is printed, and each case that differs. The exit
 //! status is 1 where one differs or can't be read.
 #![tactic(auto)]
 
 mod case;
 mod judge;
 mod reading;
+mod same;
 mod stages;
 mod table;
 mod texts;

@@ -1,6 +1,7 @@
 //! What is shown of the cases of a file.
 
 use crate::case::Case;
+use crate::same::show_same;
 use crate::stages::{Unmade, cards_of, fitting_units_of, layout_of, loops_of, units_of};
 use crate::texts::{show_expr_of, show_need_of, show_stmt_of};
 use f77_shown::refusals::show_refusal;
@@ -16,6 +17,8 @@ pub enum Table {
     Cards,
     /// The expression of a text.
     Exprs,
+    /// Which of the expressions of the lines of a source are the same tree.
+    Trees,
     /// The statement of a text.
     Statements,
     /// The units of a source.
@@ -35,6 +38,7 @@ impl Table {
         match path.rsplit('/').next()? {
             "cards.rows" => Some(Table::Cards),
             "exprs.rows" => Some(Table::Exprs),
+            "trees.rows" => Some(Table::Trees),
             "statements.rows" => Some(Table::Statements),
             "shape.rows" => Some(Table::Shape),
             "operands.rows" => Some(Table::Operands),
@@ -49,7 +53,7 @@ impl Table {
         match self {
             Table::Exprs | Table::Statements => true,
             Table::Operands => case.wanted.starts_with(b"need "),
-            Table::Cards | Table::Shape | Table::Loops | Table::Layout => false,
+            Table::Cards | Table::Trees | Table::Shape | Table::Loops | Table::Layout => false,
         }
     }
 
@@ -58,9 +62,12 @@ impl Table {
         match self {
             Table::Exprs => show_expr_of(alloc, text, into)?,
             Table::Operands => show_need_of(alloc, text, into)?,
-            Table::Cards | Table::Statements | Table::Shape | Table::Loops | Table::Layout => {
-                show_stmt_of(alloc, text, into)?;
-            }
+            Table::Cards
+            | Table::Trees
+            | Table::Statements
+            | Table::Shape
+            | Table::Loops
+            | Table::Layout => show_stmt_of(alloc, text, into)?,
         }
         into.push(b'\n')
     }
@@ -69,6 +76,7 @@ impl Table {
     fn show_file(self, alloc: Global, source: &[u8], into: &mut Bytes) -> Result<(), Unmade> {
         match self {
             Table::Cards => show_cards(alloc, source, into),
+            Table::Trees => show_trees(alloc, source, into),
             Table::Shape => show_shape(alloc, source, into),
             Table::Loops => show_loops(alloc, source, into),
             Table::Layout => show_places(alloc, source, into),
@@ -108,6 +116,13 @@ fn show_cards(alloc: Global, source: &[u8], into: &mut Bytes) -> Result<(), Unma
         show_card(card, into)?;
     }
     Ok(show_none(cards.is_empty(), into)?)
+}
+
+/// Shows which of the expressions of the lines of a source are the same tree.
+fn show_trees(alloc: Global, source: &[u8], into: &mut Bytes) -> Result<(), Unmade> {
+    let before = into.len();
+    show_same(alloc, source, into)?;
+    Ok(show_none(into.len() == before, into)?)
 }
 
 /// Shows the units of a source.
