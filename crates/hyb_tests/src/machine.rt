@@ -1,12 +1,10 @@
 //! Lines, numbers of an input, and a copy of a process: no accepted program reaches these calls yet.
 
 use f77_ast::fault::Fault;
-use f77_ast::step::Stepped;
 use f77_front::front::front;
 use f77_machine::input::Input;
 use f77_machine::line::Line;
 use f77_machine::process::Process;
-use f77_machine::store::Store;
 use hyb_base::bytes::Bytes;
 use std::alloc::Global;
 use std::test::Fail;
@@ -74,20 +72,10 @@ fn numbers_are_read(rt: HostRuntime) -> Result<(), Fail> {
 }
 
 #[test]
-fn copies_run_as_the_process_does(rt: HostRuntime) -> Result<(), Fail> {
-    let program = front(rt.alloc(), b"      PRINT *, 7\n\n\n      END\n")?;
+fn a_copy_is_at_the_statement_of_its_process(rt: HostRuntime) -> Result<(), Fail> {
+    let program = front(rt.alloc(), b"\n      PRINT *, 7\n      END\n")?;
     let process = Process::new(rt.alloc(), &program)?;
-    let mut copy = process.copy(rt.alloc())?;
-    let mut store = Store::new(rt.alloc(), &program.layout)?;
-    let mut input = Input::new(Bytes::new(rt.alloc()));
-    let mut line = Line::new(rt.alloc())?;
-    assert_eq!(rt; copy.line(), 1);
-    let first = copy.step(&program, &mut store, &mut input, &mut line);
-    assert_eq!(rt; first, Stepped::Printed);
-    assert_eq!(rt; line.text(), b" 7".as_slice());
-    assert_eq!(rt; copy.line(), 4);
-    line.clear();
-    let second = copy.step(&program, &mut store, &mut input, &mut line);
-    assert_eq!(rt; second, Stepped::Ended);
+    let copy = process.copy(rt.alloc())?;
+    assert_eq!(rt; copy.line(), 2);
     Ok(())
 }
