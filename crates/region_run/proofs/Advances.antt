@@ -1,18 +1,18 @@
 -- One step of a region, put together.
-use Rattle.std.proofs.Common.{ℕ, zero, suc, ℤ, ◌+◌, ◌%◌, ◌<◌, ◌≤◌, ◌≡◌, Bool, true, false, List, [], ◌∷◌, ◌++◌, length, take, get_or, if◌then◌else◌, Option, None, Some, refl, sym, ap, ◌∙◌, subst, arith, mod-lt, map, length-append}
+use Rattle.std.proofs.Common.{ℕ, zero, suc, ℤ, ◌+◌, ◌%◌, ◌<◌, ◌≤◌, ◌≡◌, Bool, true, false, List, [], ◌∷◌, ◌++◌, length, take, get_or, if◌then◌else◌, Option, None, Some, refl, sym, ap, ap₂, ◌∙◌, subst, arith, mod-lt, map, length-append}
 use Rattle.std.proofs.lemmas.List.{length-map}
 use Rattle.hyb_base.specs.declared.ops.RedOp.{RedOp}
 use Rattle.interleaving.specs.Machine.{Event, reads, writes, moves, ends, faults, Machine, Store}
 use Rattle.interleaving.specs.Modes.{Mode}
 use Rattle.interleaving.specs.OwnCells.{Owner, Start, with_own}
 use Rattle.interleaving.specs.Picks.{Picked, picked_of, picked, index_at, iteration_at}
-use Rattle.interleaving.specs.Region.{Iteration, Region, step_at, settled, settled_from, place_of, advanced, unfinished, all_fresh}
+use Rattle.interleaving.specs.Region.{Iteration, Region, step_at, settled, settled_from, place_of, advanced, advanced_all, unfinished}
 use Rattle.region_run.specs.declared.asks.Asked.{Asked}
 use Rattle.region_run.specs.declared.asks.Asked.TheVariants.{Reads, Writes, Moves, Ends, Faults}
 use Rattle.region_run.specs.declared.running.Advanced.{Advanced}
 use Rattle.region_run.specs.declared.running.Advanced.TheVariants.{Ran, Over, Faulted}
 use Rattle.region_run.specs.declared.running.Running.{Running}
-use Rattle.region_run.specs.Advanced.{answer_by, answer_to}
+use Rattle.region_run.specs.Advanced.{answer_by, answer_to, CameTo, has_run}
 use Rattle.region_run.specs.Asked.{asked_of, is_fault}
 use Rattle.region_run.specs.declared.live.Live.{Live}
 use Rattle.region_run.specs.Live.{iteration_of, all_from}
@@ -178,3 +178,16 @@ module _ {P R M : Type 0} (is_of : P → Type 0) (meant : P → M) (start : M �
 pub region_stays : {P R M : Type 0} (meant : P → M) (start : M → ℕ → Start M ℤ) (modes : R → ℕ → Mode RedOp) (count : R → ℕ) (own : R → ℕ → ℕ → Option ℤ) (old new : Running P R) (s s' : List ℤ) → SameLoop modes count old new → new.committed ≡ old.committed → (new.left ≡ old.left) × (new.begun ≡ old.begun) → live_of meant own new ≡ live_of meant own old → s' ≡ s →
     region_of meant start own new s' ≡ region_of meant start own old s
 region_stays meant start modes count own old new s s' same c k l e = rw (e, c, l, same.entry, same.variable, k.0, k.1)
+
+-- one pick of a list: where it had a step, the rest goes on from there; where it had none, there is no region
+pub pick_ran : {P M F : Type 0} (m : Machine P RedOp M) (modes modes' : ℕ → Mode RedOp) (window window' : ℕ) (pick : ℕ) (picks : List ℕ) (r r' : Region P M) (answer : Advanced F) → modes' ≡ modes → window' ≡ window → CameTo answer (advanced m modes' window' r pick) r' → has_run answer ≡ true →
+    advanced_all m modes window (pick ∷ picks) (Some r) ≡ advanced_all m modes window picks (Some r')
+pick_ran m modes modes' window window' pick picks r r' (Ran number asked) e w came h = ap (advanced_all m modes window picks) (ap₂ (λ (ms : ℕ → Mode RedOp) (n : ℕ). advanced m ms n r pick) (sym e) (sym w) ∙ came)
+pick_ran m modes modes' window window' pick picks r r' Over e w came h = absurd (cc)
+pick_ran m modes modes' window window' pick picks r r' (Faulted number f at) e w came h = absurd (cc)
+
+pub pick_stopped : {P M F : Type 0} (m : Machine P RedOp M) (modes modes' : ℕ → Mode RedOp) (window window' : ℕ) (pick : ℕ) (picks : List ℕ) (r r' : Region P M) (answer : Advanced F) → modes' ≡ modes → window' ≡ window → CameTo answer (advanced m modes' window' r pick) r' → has_run answer ≡ false →
+    advanced_all m modes window (pick ∷ picks) (Some r) ≡ None
+pick_stopped m modes modes' window window' pick picks r r' (Ran number asked) e w came h = absurd (cc)
+pick_stopped m modes modes' window window' pick picks r r' Over e w came h = ap (advanced_all m modes window picks) (ap₂ (λ (ms : ℕ → Mode RedOp) (n : ℕ). advanced m ms n r pick) (sym e) (sym w) ∙ came)
+pick_stopped m modes modes' window window' pick picks r r' (Faulted number f at) e w came h = ap (advanced_all m modes window picks) (ap₂ (λ (ms : ℕ → Mode RedOp) (n : ℕ). advanced m ms n r pick) (sym e) (sym w) ∙ came)

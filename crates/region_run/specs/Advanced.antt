@@ -33,3 +33,8 @@ abbrev pub has_run : {F : Type 0} → Advanced F → Bool
 has_run (Ran iteration asked) = true
 has_run Over = false
 has_run (Faulted iteration fault line) = false
+
+-- picks that each had a step came to this region; there is none where one had not
+abbrev pub came_through : {F Region : Type 0} → Option (Advanced F) → Region → Option Region
+came_through None region = Some region
+came_through (Some answer) region = None

@@ -10,7 +10,7 @@ use hyb_base::ops::RedOp;
 use std::alloc::Global;
 
 /// What a process does next.
-#[derive(Clone, Copy, Debug, PartialEq, Eq)]
+#[derive(Clone, Copy)]
 pub enum Asked<F> {
     /// It reads a cell.
     Reads {

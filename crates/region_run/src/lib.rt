@@ -7,6 +7,7 @@
 
 pub mod asks;
 pub mod live;
+pub mod picks;
 pub mod rows;
 pub mod running;
 pub mod shared;

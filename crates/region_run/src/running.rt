@@ -43,7 +43,7 @@ pub struct Running<P, R> {
 }
 
 /// The answer to a pick. Iterations are counted from 1 over the whole loop.
-#[derive(Clone, Copy, Debug, PartialEq, Eq)]
+#[derive(Clone, Copy)]
 pub enum Advanced<F> {
     /// The picked iteration took a step.
     Ran {

@@ -1,4 +1,4 @@
-use Rattle.std.proofs.Common.{◌∙◌}
+use Rattle.std.proofs.Common.{rules, ◌∙◌}
 use Rattle.region_run.specs.Machine.{store_of_cells}
 use Rattle.region_run.proofs.Commits.{settled_stays}
 use Rattle.region_run.proofs.running.Running.settle.Goals as goal
