@@ -44,6 +44,7 @@ impl<P: Asks> Live<P> {
         ensures others { (other : ℕ) → other ≢ self.old.row → R.own rows.new other ≡ R.own rows.old other }
         ensures same_modes { R.modes rows.new ≡ R.modes rows.old }
         ensures same_count { R.count rows.new ≡ R.count rows.old }
+        ensures same_total { R.total rows.new ≡ R.total rows.old }
         ensures stays { is_fault result ≡ true → (iteration_of P.meant (R.own rows.new) variable self.new ≡ iteration_of P.meant (R.own rows.old) variable self.old) × (C.values cells.new ≡ C.values cells.old) }
         ensures same_row { self.new.row ≡ self.old.row }
         ensures finished { self.new.finished ≡ finished_by result self.old.finished }
@@ -116,6 +117,7 @@ impl<P: Asks> Live<P> {
         ensures others { (other : ℕ) → other ≢ self.old.row → R.own rows.new other ≡ R.own rows.old other }
         ensures same_modes { R.modes rows.new ≡ R.modes rows.old }
         ensures same_count { R.count rows.new ≡ R.count rows.old }
+        ensures same_total { R.total rows.new ≡ R.total rows.old }
         ensures same_row { self.new.row ≡ self.old.row }
         ensures same_finished { self.new.finished ≡ self.old.finished }
     {

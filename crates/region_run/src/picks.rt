@@ -37,12 +37,14 @@ impl<P: Asks, R: Rows> Running<P, R> {
     ) -> Option<Advanced<P::Fault>>
         requires running { IsRunning (P.is_of program.now) P.meant R.count R.own self.old }
         requires fits { P.total program.now ≡ length (C.values cells.old) }
+        requires rows_fit { R.total self.old.rows ≡ length (C.values cells.old) }
         requires allowed { (a : ℕ) → IsTrue (C.may_get cells.old a) }
         ensures next { advanced_all (loop_machine P.event P.resumed P.done program.now) (R.modes self.old.rows) self.old.window picks.now (Some (region_of P.meant (P.start program.now) R.own self.old (C.values cells.old)))
             ≡ came_through result (region_of P.meant (P.start program.now) R.own self.new (C.values cells.new)) }
         ensures stopped { IfSome result (λ answer. has_run answer ≡ false) }
         ensures running { IsRunning (P.is_of program.now) P.meant R.count R.own self.new }
         ensures same { SameLoop R.modes R.count self.old self.new }
+        ensures same_total { R.total self.new.rows ≡ R.total self.old.rows }
         ensures same_length { length (C.values cells.new) ≡ length (C.values cells.old) }
         ensures same_test { C.may_get cells.new ≡ C.may_get cells.old }
     {

@@ -9,10 +9,12 @@ use hyb_base::cells::Cells;
 
 /// The copies and partials of a window of iterations, by the modes of cells. No call takes memory.
 pub trait Rows: Drop {
-    // The mode of each cell; the number of rows; a row's own value of a cell, where it has one.
+    // The mode of each cell; the number of rows; the number of cells; a row's own value of a cell, where it has one.
     ghost modes: { Self → ℕ → Mode RedOp };
 
     ghost count: { Self → ℕ };
+
+    ghost total: { Self → ℕ };
 
     ghost own: { Self → ℕ → ℕ → Option ℤ };
 
@@ -35,11 +37,13 @@ pub trait Rows: Drop {
         ensures own { own self.new row ≡ own_after (modes self.old address) (own self.old row) address value }
         ensures others { (other : ℕ) → other ≢ row → own self.new other ≡ own self.old other }
         ensures same_modes { modes self.new ≡ modes self.old }
-        ensures same_count { count self.new ≡ count self.old };
+        ensures same_count { count self.new ≡ count self.old }
+        ensures same_total { total self.new ≡ total self.old };
 
     /// Commits a row: its copies and partials go into the cells, and then it has none.
     fn commit<C: Cells>(&mut self, row: u32, cells: &mut C)
         requires row { row < count self.old }
+        requires fits { total self.old ≡ length (C.values cells.old) }
         requires allowed { (a : ℕ) → IsTrue (C.may_get cells.old a) }
         ensures store { store_of_cells (C.values cells.new) ≡ commit operators (modes self.old) (store_of_cells (C.values cells.old)) (own self.old row) }
         ensures same_length { length (C.values cells.new) ≡ length (C.values cells.old) }
@@ -47,5 +51,6 @@ pub trait Rows: Drop {
         ensures own { own self.new row ≡ (λ a. None) }
         ensures others { (other : ℕ) → other ≢ row → own self.new other ≡ own self.old other }
         ensures same_modes { modes self.new ≡ modes self.old }
-        ensures same_count { count self.new ≡ count self.old };
+        ensures same_count { count self.new ≡ count self.old }
+        ensures same_total { total self.new ≡ total self.old };
 }

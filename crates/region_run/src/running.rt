@@ -107,6 +107,7 @@ impl<P: Asks, R: Rows> Running<P, R> {
     ) -> Advanced<P::Fault>
         requires running { IsRunning (P.is_of program.now) P.meant R.count R.own self.old }
         requires fits { P.total program.now ≡ length (C.values cells.old) }
+        requires rows_fit { R.total self.old.rows ≡ length (C.values cells.old) }
         requires allowed { (a : ℕ) → IsTrue (C.may_get cells.old a) }
         ensures next { CameTo result (advanced (loop_machine P.event P.resumed P.done program.now) (R.modes self.old.rows) self.old.window (region_of P.meant (P.start program.now) R.own self.old (C.values cells.old)) pick)
             (region_of P.meant (P.start program.now) R.own self.new (C.values cells.new)) }
@@ -115,6 +116,7 @@ impl<P: Asks, R: Rows> Running<P, R> {
         ensures stays { has_run result ≡ false → region_of P.meant (P.start program.now) R.own self.new (C.values cells.new) ≡ region_of P.meant (P.start program.now) R.own self.old (C.values cells.old) }
         ensures running { IsRunning (P.is_of program.now) P.meant R.count R.own self.new }
         ensures same { SameLoop R.modes R.count self.old self.new }
+        ensures same_total { R.total self.new.rows ≡ R.total self.old.rows }
         ensures same_length { length (C.values cells.new) ≡ length (C.values cells.old) }
         ensures same_test { C.may_get cells.new ≡ C.may_get cells.old }
     {
@@ -176,6 +178,7 @@ impl<P: Asks, R: Rows> Running<P, R> {
         ensures same_committed { self.new.committed ≡ self.old.committed }
         ensures same_left { (self.new.left ≡ self.old.left) × (self.new.begun ≡ self.old.begun) }
         ensures same { SameLoop R.modes R.count self.old self.new }
+        ensures same_total { R.total self.new.rows ≡ R.total self.old.rows }
         ensures same_length { length (C.values cells.new) ≡ length (C.values cells.old) }
         ensures same_test { C.may_get cells.new ≡ C.may_get cells.old }
     {
@@ -202,6 +205,7 @@ impl<P: Asks, R: Rows> Running<P, R> {
         ensures same_test { C.may_get cells.new ≡ C.may_get cells.old }
         ensures same_modes { R.modes self.new.rows ≡ R.modes self.old.rows }
         ensures same_count { R.count self.new.rows ≡ R.count self.old.rows }
+        ensures same_total { R.total self.new.rows ≡ R.total self.old.rows }
         ensures same_room { deque_capacity self.new.live ≡ deque_capacity self.old.live }
         ensures same_rest { self.new ≡ record self.old { live = self.new.live; rows = self.new.rows } }
     {
@@ -233,12 +237,14 @@ impl<P: Asks, R: Rows> Running<P, R> {
     /// Commits the leading finished iterations in order.
     fn settle<C: Cells>(&mut self, program: &P::Program, cells: &mut C)
         requires together { HoldsTogether (P.is_of program.now) P.meant R.count R.own self.old }
+        requires rows_fit { R.total self.old.rows ≡ length (C.values cells.old) }
         requires allowed { (a : ℕ) → IsTrue (C.may_get cells.old a) }
         ensures together { HoldsTogether (P.is_of program.now) P.meant R.count R.own self.new }
         ensures first { is_first_finished self.new.live.items ≡ false }
         ensures settled { settled (loop_machine P.event P.resumed P.done program.now) (R.modes self.old.rows) self.old.committed (store_of_cells (C.values cells.old)) (pending_of P.meant (P.start program.now) R.own self.old)
             ≡ region_of P.meant (P.start program.now) R.own self.new (C.values cells.new) }
         ensures same { SameLoop R.modes R.count self.old self.new }
+        ensures same_total { R.total self.new.rows ≡ R.total self.old.rows }
         ensures same_length { length (C.values cells.new) ≡ length (C.values cells.old) }
         ensures same_test { C.may_get cells.new ≡ C.may_get cells.old }
     {
@@ -261,11 +267,13 @@ impl<P: Asks, R: Rows> Running<P, R> {
     fn commit_first<C: Cells>(&mut self, program: &P::Program, cells: &mut C)
         requires together { HoldsTogether (P.is_of program.now) P.meant R.count R.own self.old }
         requires first { is_first_finished self.old.live.items ≡ true }
+        requires rows_fit { R.total self.old.rows ≡ length (C.values cells.old) }
         requires allowed { (a : ℕ) → IsTrue (C.may_get cells.old a) }
         ensures together { HoldsTogether (P.is_of program.now) P.meant R.count R.own self.new }
         ensures settled { settled (loop_machine P.event P.resumed P.done program.now) (R.modes self.old.rows) self.old.committed (store_of_cells (C.values cells.old)) (pending_of P.meant (P.start program.now) R.own self.old)
             ≡ settled (loop_machine P.event P.resumed P.done program.now) (R.modes self.old.rows) self.new.committed (store_of_cells (C.values cells.new)) (pending_of P.meant (P.start program.now) R.own self.new) }
         ensures same { SameLoop R.modes R.count self.old self.new }
+        ensures same_total { R.total self.new.rows ≡ R.total self.old.rows }
         ensures fewer { length self.new.live.items + self.new.left < length self.old.live.items + self.old.left }
         ensures same_length { length (C.values cells.new) ≡ length (C.values cells.old) }
         ensures same_test { C.may_get cells.new ≡ C.may_get cells.old }
@@ -278,6 +286,7 @@ impl<P: Asks, R: Rows> Running<P, R> {
     /// Commits the first live iteration, and gives it back. None where there is none.
     fn commit<C: Cells>(&mut self, cells: &mut C) -> Option<Live<P>>
         requires rows { All (λ live. live.row < R.count self.old.rows) self.old.live.items }
+        requires rows_fit { R.total self.old.rows ≡ length (C.values cells.old) }
         requires allowed { (a : ℕ) → IsTrue (C.may_get cells.old a) }
         requires few { self.old.committed + 1 < 2 ^ 64 }
         ensures none { result ≡ None → self.old.live.items ≡ [] }
@@ -286,6 +295,7 @@ impl<P: Asks, R: Rows> Running<P, R> {
         ensures same_test { C.may_get cells.new ≡ C.may_get cells.old }
         ensures same_modes { R.modes self.new.rows ≡ R.modes self.old.rows }
         ensures same_count { R.count self.new.rows ≡ R.count self.old.rows }
+        ensures same_total { R.total self.new.rows ≡ R.total self.old.rows }
     {
         let first = self.live.pop_front()?;
         self.rows.commit(first.row, cells);

@@ -8,6 +8,8 @@ use hyb_base::cells::Cells;
 pub struct SharedRows {
     /// The number of rows.
     pub count: u32,
+    /// The number of cells.
+    pub total: u32,
 }
 
 impl Rows for SharedRows {
@@ -17,6 +19,8 @@ impl Rows for SharedRows {
     ghost modes = { λ rows a. Shared };
 
     ghost count = { λ rows. rows.count };
+
+    ghost total = { λ rows. rows.total };
 
     ghost own = { λ rows row a. None };
 

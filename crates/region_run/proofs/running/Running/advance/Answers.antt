@@ -4,7 +4,7 @@ use Rattle.region_run.specs.declared.running.Advanced.TheVariants.{Ran, Faulted}
 use Rattle.interleaving.specs.Region.{fresh}
 use Rattle.region_run.specs.Running.{region_of, live_of}
 use Rattle.region_run.proofs.Advances.{advanced_ran, advanced_faulted, answer_ran, answer_faulted}
-use Rattle.region_run.proofs.Picks.{found}
+use Rattle.region_run.proofs.PickedSteps.{found}
 use Rattle.region_run.proofs.running.Running.advance.Goals as goal
 
 pub returns-in-Faults-clause-next : goal.returns-in-Faults-clause-next

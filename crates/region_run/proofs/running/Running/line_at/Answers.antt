@@ -1,5 +1,5 @@
 use Rattle.std.proofs.Common.{arith}
-use Rattle.region_run.proofs.Picks.{found, line_is}
+use Rattle.region_run.proofs.PickedSteps.{found, line_is}
 use Rattle.region_run.proofs.running.Running.line_at.Goals as goal
 
 pub overflow_sub-at : goal.overflow_sub-at

@@ -10,6 +10,7 @@ invariant-loop-self g l = record {
   settled : settled (loop_machine g.P.Asks.event g.P.Asks.resumed g.P.Asks.done l.program) (g.R.Rows.modes l.initial.self.rows) l.initial.self.committed (store_of_cells (g.C.Cells.values l.initial.cells)) (pending_of g.P.Asks.meant (g.P.Asks.start l.program) g.R.Rows.own l.initial.self)
       ≡ settled (loop_machine g.P.Asks.event g.P.Asks.resumed g.P.Asks.done l.program) (g.R.Rows.modes l.initial.self.rows) l.self.committed (store_of_cells (g.C.Cells.values l.cells)) (pending_of g.P.Asks.meant (g.P.Asks.start l.program) g.R.Rows.own l.self);
   same : SameLoop g.R.Rows.modes g.R.Rows.count l.initial.self l.self;
+  same_total : g.R.Rows.total l.self.rows ≡ g.R.Rows.total l.initial.self.rows;
   same_length : length (g.C.Cells.values l.cells) ≡ length (g.C.Cells.values l.initial.cells);
   same_test : g.C.Cells.may_get l.cells ≡ g.C.Cells.may_get l.initial.cells;
 }

@@ -1,5 +1,5 @@
 use Rattle.std.proofs.Common.{arith}
-use Rattle.region_run.proofs.Picks.{found, asked_at, step_is, running_picked, stays_at}
+use Rattle.region_run.proofs.PickedSteps.{found, asked_at, step_is, running_picked, stays_at}
 use Rattle.region_run.proofs.running.Running.step_picked.Goals as goal
 
 pub overflow_sub-at : goal.overflow_sub-at

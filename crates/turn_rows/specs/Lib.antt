@@ -1,0 +1,3 @@
+-- The definitions.
+pub mod Small
+pub mod SmallRows
