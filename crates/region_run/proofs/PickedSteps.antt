@@ -173,10 +173,11 @@ module _ {P R M : Type 0} (is_of : P → Type 0) (meant : P → M) (start : M �
         let at = index_at place (live_of meant own old) in
         let is = iteration_of meant (own mid.rows) old.variable p.changed.is in
         let was = iteration_of meant (own old.rows) old.variable p.changed.was in
-        let same : is ≡ get_or (live_of meant own old) at was = (p.changed.how.stays h).0 ∙ sym (was_at old mid new place number s s' answer f p was) in
-        (lives_are old mid new place number s s' answer r f p ∙ ap (λ (x : Iteration (Owner M ℤ) ℤ). set (live_of meant own old) at x) same ∙ set_get (live_of meant own old) at was,
+        let same : is ≡ get_or (live_of meant own old) at was = (p.changed.how.stays h).0 ∙ sym (was_at old mid new place number s s' answer f p was) in (
+          lives_are old mid new place number s s' answer r f p ∙ ap (λ (x : Iteration (Owner M ℤ) ℤ). set (live_of meant own old) at x) same ∙ set_get (live_of meant own old) at was,
           p.items ∙ keeps answer h ∙ ap (λ (x : Running P R). x.unfinished.items) p.rest,
-          (p.changed.how.stays h).1)
+          (p.changed.how.stays h).1,
+        )
       where
         set_get : (xs : List (Iteration (Owner M ℤ) ℤ)) (at : ℕ) (d : Iteration (Owner M ℤ) ℤ) → set xs at (get_or xs at d) ≡ xs
         set_get [] at d = refl

@@ -2,7 +2,7 @@ use Rattle.std.proofs.Common.{◌≡◌, length, drop, Some}
 use Rattle.interleaving.specs.Region.{advanced_all}
 use Rattle.region_run.specs.Machine.{loop_machine}
 use Rattle.region_run.specs.Running.{region_of, IsRunning, SameLoop}
-use Rattle.region_run.proofs.picks.Running.advance_all.Given as goal
+use Rattle.region_run.proofs.running.Running.advance_all.Given as goal
 
 -- whatever the picks that are left make of the region by now, all make of it as it was
 abbrev pub invariant-loop-pick : goal.invariant-loop-pick
