@@ -2,14 +2,13 @@
 //! the answers and stores that it gives are compared with those that it is to give.
 #![tactic(auto)]
 
+mod judge;
+mod reading;
 mod script;
 mod small;
 mod small_rows;
-mod values;
-
-mod judge;
-mod reading;
 mod told;
+mod values;
 
 use anyhow::{Context, Result, ensure};
 use std::{env, fs};

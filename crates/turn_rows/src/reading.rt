@@ -171,11 +171,7 @@ impl Case {
     }
 
     /// Takes a line that isn't a name.
-    fn take(
-        &mut self,
-        alloc: Global,
-        line: &Line,
-    ) -> Result<Result<(), Unreadable>, AllocError> {
+    fn take(&mut self, alloc: Global, line: &Line) -> Result<Result<(), Unreadable>, AllocError> {
         match line.mark {
             Mark::End => Ok(self.take_window(line)),
             Mark::Schedule => self.take_picks(alloc, line),
@@ -184,12 +180,8 @@ impl Case {
                 self.wanted.extend_from_slice(&line.text)?;
                 Ok(Ok(()))
             }
-            Mark::Name
-            | Mark::Input
-            | Mark::Command
-            | Mark::Failing
-            | Mark::Note
-            | Mark::Ordered => Ok(Err(Unreadable::WrongMark(line.number))),
+            Mark::Name | Mark::Input | Mark::Command | Mark::Failing | Mark::Note | Mark::Ordered =>
+                Ok(Err(Unreadable::WrongMark(line.number))),
         }
     }
 }
@@ -203,7 +195,11 @@ pub fn cases(alloc: Global, bytes: &[u8]) -> Result<Vec<Result<Case, Unreadable>
             Err(unreadable) => found.push(Err(Unreadable::Escape(*unreadable)))?,
             Ok(line) => {
                 if let Mark::Name = line.mark {
-                    if let Some(case) = begun.replace(Case::new(alloc, line.number, line.text.clone()?)) {
+                    if let Some(case) = begun.replace(Case::new(
+                        alloc,
+                        line.number,
+                        line.text.clone()?,
+                    )) {
                         found.push(Ok(case))?;
                     }
                 } else {

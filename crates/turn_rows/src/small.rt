@@ -79,6 +79,7 @@ fn first_of(script: &Script, number: u64) -> usize
 
 impl Asks for Small {
     type Program = Script;
+
     type Fault = Stuck;
 
     ghost use Rattle.std.specs.Prelude.{◌%◌, ◌^◌, length};
