@@ -1,3 +1,0 @@
--- The definitions.
-pub mod Small
-pub mod SmallRows
