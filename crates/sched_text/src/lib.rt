@@ -1,0 +1,4 @@
+//! x
+#![tactic(auto)]
+mod mix;
+pub mod schedule;
