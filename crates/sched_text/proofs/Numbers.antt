@@ -1,11 +1,10 @@
 -- Lemmas on numbers with any zeros in front.
-use Rattle.std.proofs.Common.{◌≡◌, ◌≢◌, ℕ, suc, ◌+◌, ◌-◌, ◌*◌, ◌^◌, ◌<◌, ◌≤◌, Bool, true, false, ◌&&◌, List, [], ◌∷◌, length, Option, Some, None, if◌then◌else◌, refl, sym, ap, ◌∙◌, arith, rules, inl, inr, lit≤, lit<}
-use Rattle.std.specs.Prelude.{SomeIff, IsTrue, nat_lt, nat_le}
+use Rattle.std.proofs.Common.{◌≡◌, ◌≢◌, ℕ, ◌-◌, ◌*◌, ◌^◌, ◌<◌, ◌≤◌, true, ◌&&◌, List, ◌∷◌, length, Option, Some, None, if◌then◌else◌, sym, ap, ◌∙◌, arith, inl, inr, lit<}
+use Rattle.std.specs.Prelude.{SomeIff, nat_lt, nat_le}
 use Rattle.std.specs.Char.{is_ascii_digit}
 use Rattle.std.specs.List.{list_all, IsFirstAndRest}
 use Rattle.std.proofs.lemmas.Bool.{and_parts, and_from, ltb-true, lt-ltb, false_from_ne_true, leb-true, cases_Bool, both_ways}
-use Rattle.std.proofs.Math.Nat.{pow-le-pow_right, mul-le-mul_right, le_trans}
-use Rattle.std.proofs.lemmas.Bool.Decides.{nat_tests}
+use Rattle.std.proofs.Math.Nat.{pow-le-pow_right, mul-le-mul_right}
 use Rattle.hyb_base.specs.Decimal.{IsDigits, value_of}
 use Rattle.sched_text.specs.Form.{is_number, number_of}
 
@@ -50,8 +49,8 @@ by_parts : (s t : List ℕ) → (Parts s → Parts t) → (Parts t → Parts s) 
 unfolding number_of
 by_parts s t there back same =
     elim (cases_Bool (is_number s)) [
-      inl h ↦ is_some s (parts_of s h) ∙ ap (λ m. Some m) same ∙ sym (is_some t (there (parts_of s h)))
-    | inr h ↦ is_none s (λ p. both_ways (is_number s) h (number_from s p)) ∙ sym (is_none t (λ p. both_ways (is_number s) h (number_from s (back p))))
+      | inl h ↦ is_some s (parts_of s h) ∙ ap (λ m. Some m) same ∙ sym (is_some t (there (parts_of s h)))
+      | inr h ↦ is_none s (λ p. both_ways (is_number s) h (number_from s p)) ∙ sym (is_none t (λ p. both_ways (is_number s) h (number_from s (back p))))
     ]
 
 pub zero_dropped : (cs : List ℕ) → 0 < length cs → number_of (48 ∷ cs) ≡ number_of cs

@@ -1,7 +1,7 @@
 -- Lemmas on picks that are added one by one.
-use Rattle.std.proofs.Common.{◌≡◌, ℕ, ℤ, suc, List, [], ◌∷◌, ◌++◌, length, map, Option, Some, None, refl, sym, ap, ◌∙◌, append_assoc}
+use Rattle.std.proofs.Common.{◌≡◌, ℕ, ℤ, suc, List, [], ◌∷◌, ◌++◌, length, map, Option, Some, None, refl, sym, ap, append_assoc}
 use Rattle.std.specs.Int.{w64, cast_signed}
-use Rattle.sched_text.specs.Form.{number_of, numbers_of, before_others, pushed, parts_after}
+use Rattle.sched_text.specs.Form.{before_others, pushed}
 
 -- the bytes that are left, and one more where there are any left to look at
 abbrev pub left_over : Option (List ℕ) → ℕ

@@ -5,7 +5,7 @@ use Rattle.std.specs.Prelude.{codes, nat_le, nat_eq, All}
 use Rattle.std.specs.Int.{w64, cast_signed}
 use Rattle.std.specs.List.{slice_split}
 use Rattle.std.specs.Cmp.Lexicographic.{pointwise}
-use Rattle.std.proofs.lemmas.Bool.{cases_Bool, and_parts, leb-true, both_ways, eqb-true, ne_eqb, and_left, cases_order}
+use Rattle.std.proofs.lemmas.Bool.{cases_Bool, and_parts, leb-true, eqb-true, ne_eqb, and_left, cases_order}
 use Rattle.std.proofs.lemmas.List.{map-append, append-nil, length-map}
 use Rattle.std.proofs.lemmas.List.Elements.{All-cons, All-tail}
 use Rattle.std.proofs.lemmas.List.Splits.{length-slice_split}
@@ -18,7 +18,7 @@ use Rattle.sched_text.specs.Form.{number_of, numbers_of, before_others, after_wo
 use Rattle.sched_text.specs.Picks.{HasPick}
 use Rattle.sched_text.specs.Reading.{bad_end, unless_bad, after_list, lists, as_list, picks_by, picks_from, with_window, schedule_by, schedule_from}
 use Rattle.sched_text.specs.Laws.{SpellsOne, HasOneBadLine, TextsAreDecided, SchedulesAreSound}
-use Rattle.sched_text.specs.Schedules.{IsSchedule, AreLists, no_list, one_more, SpellPicks, Spells, CanBegin, IsBadLine}
+use Rattle.sched_text.specs.Schedules.{IsSchedule, AreLists, no_list, one_more, SpellPicks, Spells, IsBadLine}
 
 abbrev Line : Type 0
 Line = std.List ℕ
@@ -89,16 +89,16 @@ bad_ends : (ls : Lines) (n m : ℕ) → bad_end ls n ≡ Some m → BadEnd ls n 
 bad_ends [] n m h = absurd (cc)
 bad_ends (line ∷ ls) n m h =
     elim (cases_Bool (length line == 0)) [
-      inl e ↦ end_later line ls n m e (bad_ends ls (n + 1) m (sym (end_yes line ls n e) ∙ h))
-    | inr e ↦ end_now line ls n m e (same_some n m (sym (end_no line ls n e) ∙ h))
+      | inl e ↦ end_later line ls n m e (bad_ends ls (n + 1) m (sym (end_yes line ls n e) ∙ h))
+      | inr e ↦ end_now line ls n m e (same_some n m (sym (end_no line ls n e) ∙ h))
     ]
 
 good_ends : (ls : Lines) (n : ℕ) → bad_end ls n ≡ None → All (λ line. line ≡ []) ls
 good_ends [] n h = λ k d l. absurd (omega arith)
 good_ends (line ∷ ls) n h =
     elim (cases_Bool (length line == 0)) [
-      inl e ↦ All-cons (λ l. l ≡ []) line ls (empty_line line e) (good_ends ls (n + 1) (sym (end_yes line ls n e) ∙ h))
-    | inr e ↦ absurd (cc (end_no line ls n e, h))
+      | inl e ↦ All-cons (λ l. l ≡ []) line ls (empty_line line e) (good_ends ls (n + 1) (sym (end_yes line ls n e) ∙ h))
+      | inr e ↦ absurd (cc (end_no line ls n e, h))
     ]
 
 all_empty : (ls : Lines) (n : ℕ) → All (λ line. line ≡ []) ls → bad_end ls n ≡ None
@@ -182,10 +182,10 @@ bad_lists : (ls : Lines) (n : ℕ) (picks : std.List ℤ) (m : ℕ) → lists ls
 bad_lists [] n picks m h = absurd (cc)
 bad_lists (line ∷ ls) n picks m h =
     elim (cases_Bool (length line == 0)) [
-      inl e ↦ list_end line ls n picks m e (bad_ends (line ∷ ls) n m (unless_some (bad_end (line ∷ ls) n) picks m (sym (list_empty line ls n picks e) ∙ h)))
-    | inr e ↦ elim (option_cases (pushed (list_of line) picks)) [
-        inl p ↦ list_now line ls n picks m e p (same_err n m (lists (line ∷ ls) n picks) (list_no line ls n picks e p) h)
-      | inr (more, p) ↦ list_later line ls n picks more m e p (bad_lists ls (n + 1) more m (sym (list_yes line ls n picks more e p) ∙ h))
+      | inl e ↦ list_end line ls n picks m e (bad_ends (line ∷ ls) n m (unless_some (bad_end (line ∷ ls) n) picks m (sym (list_empty line ls n picks e) ∙ h)))
+      | inr e ↦ elim (option_cases (pushed (list_of line) picks)) [
+        | inl p ↦ list_now line ls n picks m e p (same_err n m (lists (line ∷ ls) n picks) (list_no line ls n picks e p) h)
+        | inr (more, p) ↦ list_later line ls n picks more m e p (bad_lists ls (n + 1) more m (sym (list_yes line ls n picks more e p) ∙ h))
       ]
     ]
 
@@ -226,10 +226,10 @@ good_lists : (ls : Lines) (n : ℕ) (picks all : std.List ℤ) → lists ls n pi
 good_lists [] n picks all h = cut_here [] picks all (λ k d l. absurd (omega arith)) (same_ok picks all (Ok picks) refl h)
 good_lists (line ∷ ls) n picks all h =
     elim (cases_Bool (length line == 0)) [
-      inl e ↦ (let parts = unless_none (bad_end (line ∷ ls) n) picks all (sym (list_empty line ls n picks e) ∙ h) in cut_here (line ∷ ls) picks all (good_ends (line ∷ ls) n parts.0) parts.1)
-    | inr e ↦ elim (option_cases (pushed (list_of line) picks)) [
-        inl p ↦ absurd (cc (list_no line ls n picks e p, h))
-      | inr (more, p) ↦ cut_more line ls picks more all p (good_lists ls (n + 1) more all (sym (list_yes line ls n picks more e p) ∙ h))
+      | inl e ↦ (let parts = unless_none (bad_end (line ∷ ls) n) picks all (sym (list_empty line ls n picks e) ∙ h) in cut_here (line ∷ ls) picks all (good_ends (line ∷ ls) n parts.0) parts.1)
+      | inr e ↦ elim (option_cases (pushed (list_of line) picks)) [
+        | inl p ↦ absurd (cc (list_no line ls n picks e p, h))
+        | inr (more, p) ↦ cut_more line ls picks more all p (good_lists ls (n + 1) more all (sym (list_yes line ls n picks more e p) ∙ h))
       ]
     ]
 
@@ -256,8 +256,8 @@ unfolding after_word
 no_seed [] ns h = refl
 no_seed (b ∷ line) ns h =
     elim (cases_Bool (nat_eq b 76)) [
-      inl e ↦ other_word b line e
-    | inr e ↦ absurd (cc (not_listed b line e, h))
+      | inl e ↦ other_word b line e
+      | inr e ↦ absurd (cc (not_listed b line e, h))
     ]
 
 no_lists : (ends : Lines) (n : ℕ) (picks : std.List ℤ) → All (λ line. line ≡ []) ends → lists ends n picks ≡ Ok picks
@@ -271,7 +271,6 @@ whole_lists middle ends numbers n picks (one_more line ls ns others is are) h =
     list_yes line (ls ++ ends) n picks (picks ++ map (cast_signed w64) ns) (list_filled line ns is) (ap (λ o. pushed o picks) is)
     ∙ whole_lists ls ends others (n + 1) (picks ++ map (cast_signed w64) ns) are h
     ∙ ap (λ z. Ok z) (append_assoc picks (map (cast_signed w64) ns) (map (cast_signed w64) others) ∙ ap (λ z. picks ++ z) (sym (map-append (cast_signed w64) ns others)))
-
 
 -- ---- the whole
 
@@ -386,10 +385,10 @@ more_from_list second ls picks m h p b = record {
 bad_picks : (first second : Line) (ls : Lines) (w m : ℕ) → window_of first ≡ Some w → picks_from (second ∷ ls) ≡ Err m → Bad (first ∷ second ∷ ls) m
 bad_picks first second ls w m h e =
     elim (option_cases (seed_of second)) [
-      inr (seed, s) ↦ bad_later first second ls w m h (more_from_end second seed ls m s (bad_ends ls 3 m (unless_some (bad_end ls 3) (Mix seed) m (sym (by_mix second seed ls s) ∙ e))))
-    | inl s ↦ elim (option_cases (pushed (list_of second) [])) [
-        inl p ↦ (let never : (rest : Lines) → picks_from (second ∷ rest) ≡ Err 2 = λ rest. by_lists second rest s ∙ ap (λ o. as_list (after_list o (lists rest 3) 2)) p in bad_second first second ls w m h (same_err 2 m (picks_from (second ∷ ls)) (never ls) e) never)
-      | inr (picks, p) ↦ bad_later first second ls w m h (more_from_list second ls picks m s p (bad_lists ls 3 picks m (as_list_err (lists ls 3 picks) m (ap (λ o. as_list (after_list o (lists ls 3) 2)) (sym p) ∙ sym (by_lists second ls s) ∙ e))))
+      | inr (seed, s) ↦ bad_later first second ls w m h (more_from_end second seed ls m s (bad_ends ls 3 m (unless_some (bad_end ls 3) (Mix seed) m (sym (by_mix second seed ls s) ∙ e))))
+      | inl s ↦ elim (option_cases (pushed (list_of second) [])) [
+        | inl p ↦ (let never : (rest : Lines) → picks_from (second ∷ rest) ≡ Err 2 = λ rest. by_lists second rest s ∙ ap (λ o. as_list (after_list o (lists rest 3) 2)) p in bad_second first second ls w m h (same_err 2 m (picks_from (second ∷ ls)) (never ls) e) never)
+        | inr (picks, p) ↦ bad_later first second ls w m h (more_from_list second ls picks m s p (bad_lists ls 3 picks m (as_list_err (lists ls 3 picks) m (ap (λ o. as_list (after_list o (lists ls 3) 2)) (sym p) ∙ sym (by_lists second ls s) ∙ e))))
       ]
     ]
 
@@ -425,8 +424,8 @@ bad_lines [] m h = record {
 }
 bad_lines (first ∷ ls) m h =
     elim (option_cases (window_of first)) [
-      inl e ↦ bad_first first ls m e (same_err 1 m (schedule_from (first ∷ ls)) (ap (λ o. schedule_by o ls) e) h)
-    | inr (w, e) ↦ bad_after first ls w m e (with_window_err w (picks_from ls) m (ap (λ o. schedule_by o ls) (sym e) ∙ h))
+      | inl e ↦ bad_first first ls m e (same_err 1 m (schedule_from (first ∷ ls)) (ap (λ o. schedule_by o ls) e) h)
+      | inr (w, e) ↦ bad_after first ls w m e (with_window_err w (picks_from ls) m (ap (λ o. schedule_by o ls) (sym e) ∙ h))
     ]
 
 -- ---- what is read is spelled
@@ -434,19 +433,19 @@ bad_lines (first ∷ ls) m h =
 picks_spelled : (first second : Line) (ls : Lines) (w : ℕ) (p : Picks) → window_of first ≡ Some w → picks_from (second ∷ ls) ≡ Ok p → Spells (first ∷ second ∷ ls) (record { window = w; picks = p })
 picks_spelled first second ls w p h e =
     elim (option_cases (seed_of second)) [
-      inr (seed, s) ↦ (
-        let parts = unless_none (bad_end ls 3) (Mix seed) p (sym (by_mix second seed ls s) ∙ e) in
-        let read : SpellPicks (second ∷ []) (Mix seed) = (second, refl, s) in
-        record { first = first; middle = second ∷ []; ends = ls; whole = refl; window = h; picks = subst (SpellPicks (second ∷ [])) parts.1 read; empty = good_ends ls 3 parts.0 })
-    | inl s ↦ elim (option_cases (pushed (list_of second) [])) [
-        inl o ↦ absurd (cc (by_lists second ls s ∙ ap (λ o. as_list (after_list o (lists ls 3) 2)) o, e))
-      | inr (picks, o) ↦ (
-          let (ns, is, adds) = pushed_parts (list_of second) [] picks o in
-          let (all, read, same) = as_list_ok (lists ls 3 picks) p (ap (λ o. as_list (after_list o (lists ls 3) 2)) (sym o) ∙ sym (by_lists second ls s) ∙ e) in
-          let c = good_lists ls 3 picks all read in
-          let value : all ≡ map (cast_signed w64) (ns ++ c.numbers) = c.adds ∙ ap (λ z. z ++ map (cast_signed w64) c.numbers) (sym adds) ∙ sym (map-append (cast_signed w64) ns c.numbers) in
-          let spelled : SpellPicks (second ∷ c.middle) (List all) = (ns ++ c.numbers, (λ e. cc), one_more second c.middle ns c.numbers is c.are, value) in
-          record { first = first; middle = second ∷ c.middle; ends = c.ends; whole = ap (λ z. first ∷ second ∷ z) c.whole; window = h; picks = subst (SpellPicks (second ∷ c.middle)) same spelled; empty = c.empty })
+      | inr (seed, s) ↦ (
+          let parts = unless_none (bad_end ls 3) (Mix seed) p (sym (by_mix second seed ls s) ∙ e) in
+          let read : SpellPicks (second ∷ []) (Mix seed) = (second, refl, s) in
+          record { first = first; middle = second ∷ []; ends = ls; whole = refl; window = h; picks = subst (SpellPicks (second ∷ [])) parts.1 read; empty = good_ends ls 3 parts.0 })
+      | inl s ↦ elim (option_cases (pushed (list_of second) [])) [
+        | inl o ↦ absurd (cc (by_lists second ls s ∙ ap (λ o. as_list (after_list o (lists ls 3) 2)) o, e))
+        | inr (picks, o) ↦ (
+            let (ns, is, adds) = pushed_parts (list_of second) [] picks o in
+            let (all, read, same) = as_list_ok (lists ls 3 picks) p (ap (λ o. as_list (after_list o (lists ls 3) 2)) (sym o) ∙ sym (by_lists second ls s) ∙ e) in
+            let c = good_lists ls 3 picks all read in
+            let value : all ≡ map (cast_signed w64) (ns ++ c.numbers) = c.adds ∙ ap (λ z. z ++ map (cast_signed w64) c.numbers) (sym adds) ∙ sym (map-append (cast_signed w64) ns c.numbers) in
+            let spelled : SpellPicks (second ∷ c.middle) (List all) = (ns ++ c.numbers, (λ e. cc), one_more second c.middle ns c.numbers is c.are, value) in
+            record { first = first; middle = second ∷ c.middle; ends = c.ends; whole = ap (λ z. first ∷ second ∷ z) c.whole; window = h; picks = subst (SpellPicks (second ∷ c.middle)) same spelled; empty = c.empty })
       ]
     ]
 
@@ -458,8 +457,8 @@ pub is_spelled : (ls : Lines) (s : Schedule) → schedule_from ls ≡ Ok s → S
 is_spelled [] s h = absurd (cc)
 is_spelled (first ∷ ls) s h =
     elim (option_cases (window_of first)) [
-      inl e ↦ absurd (cc (ap (λ o. schedule_by o ls) e, h))
-    | inr (w, e) ↦ (let (p, read, same) = with_window_ok w (picks_from ls) s (ap (λ o. schedule_by o ls) (sym e) ∙ h) in subst (Spells (first ∷ ls)) same (after_spelled first ls w p e read))
+      | inl e ↦ absurd (cc (ap (λ o. schedule_by o ls) e, h))
+      | inr (w, e) ↦ (let (p, read, same) = with_window_ok w (picks_from ls) s (ap (λ o. schedule_by o ls) (sym e) ∙ h) in subst (Spells (first ∷ ls)) same (after_spelled first ls w p e read))
     ]
 
 -- ---- what is spelled is read
@@ -473,9 +472,9 @@ read_list first middle ends w numbers h some no_list empty = absurd (some refl)
 read_list first middle ends w numbers h some (one_more line ls ns others is are) empty =
     ap (λ o. schedule_by o (line ∷ (ls ++ ends))) h
     ∙ ap (with_window w) (
-        by_lists line (ls ++ ends) (no_seed line ns is)
-        ∙ ap (λ o. as_list (after_list (pushed o []) (lists (ls ++ ends) 3) 2)) is
-        ∙ ap as_list (whole_lists ls ends others 3 (map (cast_signed w64) ns) are empty ∙ ap (λ z. Ok z) (sym (map-append (cast_signed w64) ns others))))
+    by_lists line (ls ++ ends) (no_seed line ns is)
+    ∙ ap (λ o. as_list (after_list (pushed o []) (lists (ls ++ ends) 3) 2)) is
+    ∙ ap as_list (whole_lists ls ends others 3 (map (cast_signed w64) ns) are empty ∙ ap (λ z. Ok z) (sym (map-append (cast_signed w64) ns others))))
 
 read_picks : (first : Line) (middle ends : Lines) (w : ℕ) (p : Picks) → window_of first ≡ Some w → SpellPicks middle p → All (λ line. line ≡ []) ends → schedule_from (first ∷ (middle ++ ends)) ≡ Ok (record { window = w; picks = p })
 read_picks first middle ends w (Mix seed) h (line, is, s) empty =
@@ -507,18 +506,18 @@ result_cases (Err m) = inr (m, refl)
 one_bad_line : (ls : Lines) (m k : ℕ) → IsBadLine ls m → IsBadLine ls k → k ≡ m
 one_bad_line ls m k b c =
     elim (cases_order k m) [
-      inl e ↦ e
-    | inr less ↦ elim less [
-        inl l ↦ absurd (c.here (omega (arith, l, b.counted.1)) (b.before k l))
-      | inr l ↦ absurd (b.here (omega (arith, l, c.counted.1)) (c.before m l))
+      | inl e ↦ e
+      | inr less ↦ elim less [
+        | inl l ↦ absurd (c.here (omega (arith, l, b.counted.1)) (b.before k l))
+        | inr l ↦ absurd (b.here (omega (arith, l, c.counted.1)) (c.before m l))
       ]
     ]
 
 decided : (ls : Lines) → SpellsOne ls ⊎ HasOneBadLine ls
 decided ls =
     elim (result_cases (schedule_from ls)) [
-      inl (s, e) ↦ inl (s, is_spelled ls s e, λ other spelled. same_ok other s (schedule_from ls) (is_read ls other spelled) e)
-    | inr (m, e) ↦ inr (m, is_bad ls m e, λ k b. one_bad_line ls m k (is_bad ls m e) b)
+      | inl (s, e) ↦ inl (s, is_spelled ls s e, λ other spelled. same_ok other s (schedule_from ls) (is_read ls other spelled) e)
+      | inr (m, e) ↦ inr (m, is_bad ls m e, λ k b. one_bad_line ls m k (is_bad ls m e) b)
     ]
 
 pub texts_decided : TextsAreDecided

@@ -4,13 +4,12 @@
 //! says and what its picks are is defined over the lines of the text; `read` and `pick` are proved to give just that.
 #![tactic(auto)]
 
+pub mod laws;
 mod lines;
 mod mix;
 mod number;
 mod reader;
-mod spelling;
-
-pub mod laws;
 pub mod schedule;
+mod spelling;
 
 pub use reader::read;

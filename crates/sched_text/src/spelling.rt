@@ -22,7 +22,13 @@ fn in_window(number: Option<u64>) -> Option<u32>
 {
     match number {
         None => None,
-        Some(window) => { if 1 <= window && window <= MAX_WINDOW { Some(window as u32) } else { None } }
+        Some(window) => {
+            if 1 <= window && window <= MAX_WINDOW {
+                Some(window as u32)
+            } else {
+                None
+            }
+        }
     }
 }
 

@@ -1,4 +1,4 @@
-use Rattle.std.proofs.Common.{rules, ap, sym, ◌∙◌}
+use Rattle.std.proofs.Common.{rules}
 use Rattle.sched_text.proofs.LineLemmas.{only_line, first_line}
 use Rattle.sched_text.proofs.lines.next_line.Goals as goal
 

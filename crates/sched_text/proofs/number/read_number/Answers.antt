@@ -1,4 +1,4 @@
-use Rattle.std.proofs.Common.{rules, arith, ◌∙◌, sym}
+use Rattle.std.proofs.Common.{rules, arith, ◌∙◌}
 use Rattle.sched_text.proofs.Numbers.{from_read, zero_first, other_first}
 use Rattle.sched_text.proofs.number.read_number.Goals as goal
 
