@@ -9,5 +9,3 @@ mod base;
 mod machine;
 #[cfg(test)]
 mod outside;
-#[cfg(test)]
-mod trees;

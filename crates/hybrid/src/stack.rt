@@ -15,18 +15,18 @@ fn has_room(alloc: Global) -> bool {
     room.reserve_exact(STACK_BYTES).is_ok()
 }
 
-/// Touches so much stack, and counts the pages that hold the mark.
+/// Touches the pages of that much stack. Whether each holds the mark.
 #[inline(never)]
-fn touch(mark: u8) -> usize {
+fn touch(mark: u8) -> bool {
     let mut bytes = [0; STACK_BYTES];
     for at in (0..STACK_BYTES).step_by(PAGE_BYTES) {
         bytes[at] = mark;
     }
-    let mut pages = 0;
+    let mut holds = true;
     for at in (0..STACK_BYTES).step_by(PAGE_BYTES) {
-        pages += usize::from(bytes[at] == mark);
+        holds = holds && bytes[at] == mark;
     }
-    pages
+    holds
 }
 
 /// Takes the stack that the deepest source needs. Whether it could be had.
@@ -34,5 +34,5 @@ fn touch(mark: u8) -> usize {
 /// A system that has no room for one more page of stack ends the program by a signal. So the room is asked for as memory
 /// first, which can be refused, and given back; then the stack is touched, and stays the program's.
 pub fn take_stack(alloc: Global) -> bool {
-    has_room(alloc) && touch(1) > 0
+    has_room(alloc) && touch(1)
 }
