@@ -1,15 +1,15 @@
 -- The laws of operators.
-use Rattle.std.proofs.Common.{◌≡◌, ℕ, zero, suc, ◌-◌, ◌^◌, ℤ, pos, negsuc, ◌+ℤ◌, ◌*ℤ◌, Bool, true, false, List, [], ◌∷◌, refl, sym, ap, ◌∙◌, arith, rules, FitsSigned}
-use Rattle.std.specs.Prelude.{not, ◌&&◌, ◌||◌}
+use Rattle.std.proofs.Common.{◌≡◌, ◌-◌, ◌^◌, ℤ, pos, negsuc, ◌*ℤ◌, Bool, true, false, refl, sym, ap, ◌∙◌, arith, FitsSigned}
+use Rattle.std.specs.Prelude.{not}
 use Rattle.std.specs.Int.{w64, int_max, int_min}
 use Rattle.std.proofs.Math.IntN.{+ℤ_idl}
 use Rattle.std.proofs.lemmas.Int.{ints, int_wrap_fits}
 use Rattle.hyb_base.specs.declared.ops.RedOp.{RedOp}
 use Rattle.hyb_base.specs.declared.ops.RedOp.TheVariants.{Add, Mul, Max, Min, And, Or, Eqv, Neqv}
-use Rattle.hyb_base.specs.Reduction.{apply, identity, truth_of, number_of, agree, ReducesAsOne}
+use Rattle.hyb_base.specs.Reduction.{apply, identity, truth_of, number_of}
 use Rattle.hyb_base.specs.Wrap.{wrapped}
 use Rattle.hyb_base.proofs.Reductions.{operators_reduce}
-use Rattle.red_ops.specs.Laws.{is_logical, left_of, IdentitiesStay, TruthDecides, committed, Reorders, none, keep, swap, and_then, OrderIsFree}
+use Rattle.red_ops.specs.Laws.{left_of, IdentitiesStay, TruthDecides, committed, none, keep, swap, and_then, OrderIsFree}
 
 one-times : (y : ℤ) → pos 1 *ℤ y ≡ y
 one-times (pos n) = omega (arith, ints)

@@ -118,24 +118,32 @@ impl Draft {
 
     /// The row, at its end.
     fn finish(self, alloc: Global) -> Result<Result<Row, Unreadable>, AllocError> {
-        if let Some(unreadable) = self.unreadable {
+        let Draft {
+            number,
+            name,
+            command,
+            source,
+            wanted,
+            unreadable,
+        } = self;
+        if let Some(unreadable) = unreadable {
             return Ok(Err(unreadable));
         }
-        let number = self.number;
         let cause = Cause::NoKind;
-        let Some(command) = self.command else {
+        let Some(command) = command else {
             return Ok(Err(Unreadable { number, cause }));
         };
         let Some((kind, words)) = kind_of(&command) else {
             return Ok(Err(Unreadable { number, cause }));
         };
+        let words = Vec::from_slice(alloc, words)?;
         Ok(Ok(Row {
             number,
-            name: self.name,
+            name,
             kind,
-            words: Vec::from_slice(alloc, words)?,
-            source: self.source,
-            wanted: self.wanted,
+            words,
+            source,
+            wanted,
         }))
     }
 }

@@ -1,18 +1,18 @@
 -- Lemmas on marks as bits.
-use Rattle.std.proofs.Common.{◌≡◌, ◌≢◌, ℕ, ◌+◌, ◌*◌, ◌/◌, ◌%◌, ◌^◌, ◌<◌, ◌≤◌, ◌⊎◌, inl, inr, Bool, true, false, ◌==◌, List, length, get_or, if◌then◌else◌, refl, sym, ap, ◌∙◌, arith}
+use Rattle.std.proofs.Common.{◌≡◌, ◌≢◌, ℕ, ◌+◌, ◌*◌, ◌/◌, ◌%◌, ◌<◌, inl, inr, true, false, ◌==◌, List, length, get_or, if◌then◌else◌, refl, sym, ap, ◌∙◌, arith}
 use Rattle.std.specs.Prelude.{slice_set, replicate}
 use Rattle.std.specs.Int.{bit_at}
 use Rattle.std.proofs.lemmas.Bool.{cases_eq, cases_lt, eq-eqb, ne_eqb}
 use Rattle.std.proofs.lemmas.List.{get_or-set_same, get_or-set_other, get_or-replicate, get_or_past, length-replicate}
-use Rattle.std.proofs.lemmas.Nat.Bits.{bit_at-zero, bit_at-lt}
+use Rattle.std.proofs.lemmas.Nat.Bits.{bit_at-zero}
 use Rattle.slot_rows.specs.Marks.{marked_in}
 
 -- a number with a bit isn't 0
 pub filled_by_bit : (n i : ℕ) → bit_at n i ≡ 1 → 0 < n
 filled_by_bit n i h =
     elim (cases_eq n 0) [
-      inl e ↦ absurd (omega (arith, h, ap (λ m. bit_at m i) e, bit_at-zero i))
-    | inr e ↦ omega arith
+      | inl e ↦ absurd (omega (arith, h, ap (λ m. bit_at m i) e, bit_at-zero i))
+      | inr e ↦ omega arith
     ]
 
 -- a unit, by its word and its place in it
@@ -36,17 +36,17 @@ pub added : (words : List ℕ) (unit w : ℕ) → unit / 64 < length words → b
 unfolding marked_in
 added words unit w within here others u =
     elim (cases_eq u unit) [
-      inl e ↦
-        this_word words (unit / 64) w u within (ap (λ k. k / 64) e) ∙ eq-eqb (bit_at w (u % 64)) 1 (ap (λ k. bit_at w (k % 64)) e ∙ here)
-        ∙ sym (ap (λ t. if t then true else marked_in words u) (eq-eqb u unit e))
-    | inr e ↦ elim (cases_eq (u / 64) (unit / 64)) [
-        inl d ↦
-          this_word words (unit / 64) w u within d
-          ∙ ap (λ b. b == 1) (others (u % 64) (λ m. e (same_unit u unit d m)) ∙ ap (λ k. bit_at (get_or words k 0) (u % 64)) (sym d))
-          ∙ sym (ap (λ t. if t then true else marked_in words u) (ne_eqb u unit e))
-      | inr d ↦
-          other_word words (unit / 64) w u d
-          ∙ sym (ap (λ t. if t then true else marked_in words u) (ne_eqb u unit e))
+      | inl e ↦
+          this_word words (unit / 64) w u within (ap (λ k. k / 64) e) ∙ eq-eqb (bit_at w (u % 64)) 1 (ap (λ k. bit_at w (k % 64)) e ∙ here)
+          ∙ sym (ap (λ t. if t then true else marked_in words u) (eq-eqb u unit e))
+      | inr e ↦ elim (cases_eq (u / 64) (unit / 64)) [
+        | inl d ↦
+            this_word words (unit / 64) w u within d
+            ∙ ap (λ b. b == 1) (others (u % 64) (λ m. e (same_unit u unit d m)) ∙ ap (λ k. bit_at (get_or words k 0) (u % 64)) (sym d))
+            ∙ sym (ap (λ t. if t then true else marked_in words u) (ne_eqb u unit e))
+        | inr d ↦
+            other_word words (unit / 64) w u d
+            ∙ sym (ap (λ t. if t then true else marked_in words u) (ne_eqb u unit e))
       ]
     ]
 
@@ -55,17 +55,17 @@ unfolding marked_in
 removed words place bit w within small here others u =
     let at = unit_at place bit small in
     elim (cases_eq u (place * 64 + bit)) [
-      inl e ↦
-        this_word words place w u within (ap (λ k. k / 64) e ∙ at.0) ∙ ne_eqb (bit_at w (u % 64)) 1 (λ one. absurd (omega (arith, one, ap (λ k. bit_at w k) (ap (λ k. k % 64) e ∙ at.1), here)))
-        ∙ sym (ap (λ t. if t then false else marked_in words u) (eq-eqb u (place * 64 + bit) e))
-    | inr e ↦ elim (cases_eq (u / 64) place) [
-        inl d ↦
-          this_word words place w u within d
-          ∙ ap (λ b. b == 1) (others (u % 64) (omega arith) (λ m. e (omega (arith, m, d))) ∙ ap (λ k. bit_at (get_or words k 0) (u % 64)) (sym d))
-          ∙ sym (ap (λ t. if t then false else marked_in words u) (ne_eqb u (place * 64 + bit) e))
-      | inr d ↦
-          other_word words place w u d
-          ∙ sym (ap (λ t. if t then false else marked_in words u) (ne_eqb u (place * 64 + bit) e))
+      | inl e ↦
+          this_word words place w u within (ap (λ k. k / 64) e ∙ at.0) ∙ ne_eqb (bit_at w (u % 64)) 1 (λ one. absurd (omega (arith, one, ap (λ k. bit_at w k) (ap (λ k. k % 64) e ∙ at.1), here)))
+          ∙ sym (ap (λ t. if t then false else marked_in words u) (eq-eqb u (place * 64 + bit) e))
+      | inr e ↦ elim (cases_eq (u / 64) place) [
+        | inl d ↦
+            this_word words place w u within d
+            ∙ ap (λ b. b == 1) (others (u % 64) (omega arith) (λ m. e (omega (arith, m, d))) ∙ ap (λ k. bit_at (get_or words k 0) (u % 64)) (sym d))
+            ∙ sym (ap (λ t. if t then false else marked_in words u) (ne_eqb u (place * 64 + bit) e))
+        | inr d ↦
+            other_word words place w u d
+            ∙ sym (ap (λ t. if t then false else marked_in words u) (ne_eqb u (place * 64 + bit) e))
       ]
     ]
 
@@ -85,8 +85,8 @@ none_marked words h u =
 zero_words : (n k z : ℕ) → z ≡ 0 → get_or (replicate n z) k 0 ≡ 0
 zero_words n k z h =
     elim (cases_lt k n) [
-      inl l ↦ get_or-replicate n k z 0 l ∙ h
-    | inr l ↦ get_or_past (replicate n z) k 0 (omega (arith, length-replicate n z))
+      | inl l ↦ get_or-replicate n k z 0 l ∙ h
+      | inr l ↦ get_or_past (replicate n z) k 0 (omega (arith, length-replicate n z))
     ]
 
 pub none_at_first : (words : List ℕ) (n : ℕ) → words ≡ replicate n 0 → (u : ℕ) → marked_in words u ≡ false

@@ -1,5 +1,5 @@
 -- Lemmas on the number of addresses at which something is written.
-use Rattle.std.proofs.Common.{◌≡◌, ◌≢◌, ℕ, zero, suc, ◌+◌, ◌<◌, ◌≤◌, ◌⊎◌, inl, inr, Bool, true, false, if◌then◌else◌, refl, sym, ap, ◌∙◌, arith, ℤ, Option, Some, None}
+use Rattle.std.proofs.Common.{◌≡◌, ◌≢◌, ℕ, zero, suc, ◌<◌, inl, inr, Bool, true, false, if◌then◌else◌, refl, sym, ap, ◌∙◌, arith, ℤ, Option, Some, None}
 use Rattle.std.specs.Prelude.{is_some}
 use Rattle.std.proofs.lemmas.Bool.{cases_eq}
 use Rattle.slot_rows.specs.Counts.{count_below}
@@ -22,18 +22,18 @@ unfolding count_below
 one_less f g zero a l p q h = absurd (omega arith)
 one_less f g (suc n) a l p q h =
     elim (cases_eq a n) [
-      inl e ↦ (
-        let here : f n ≡ true = ap f (sym e) ∙ p in
-        let there : g n ≡ false = ap g (sym e) ∙ q in
-        ap (λ t. if t then suc (count_below f n) else count_below f n) here
-        ∙ ap (λ k. suc k) (same_count f g n (λ b m. h b (λ s. omega (arith, e, s, m))))
-        ∙ sym (ap (λ t. suc (if t then suc (count_below g n) else count_below g n)) there))
-    | inr e ↦ (
-        let less : count_below f n ≡ suc (count_below g n) = one_less f g n a (omega arith) p q h in
-        let same : f n ≡ g n = h n (λ s. e (sym s)) in
-        ap (λ t. if t then suc (count_below f n) else count_below f n) same
-        ∙ ap (λ k. if g n then suc k else k) less
-        ∙ moved (g n) (count_below g n))
+      | inl e ↦ (
+          let here : f n ≡ true = ap f (sym e) ∙ p in
+          let there : g n ≡ false = ap g (sym e) ∙ q in
+          ap (λ t. if t then suc (count_below f n) else count_below f n) here
+          ∙ ap (λ k. suc k) (same_count f g n (λ b m. h b (λ s. omega (arith, e, s, m))))
+          ∙ sym (ap (λ t. suc (if t then suc (count_below g n) else count_below g n)) there))
+      | inr e ↦ (
+          let less : count_below f n ≡ suc (count_below g n) = one_less f g n a (omega arith) p q h in
+          let same : f n ≡ g n = h n (λ s. e (sym s)) in
+          ap (λ t. if t then suc (count_below f n) else count_below f n) same
+          ∙ ap (λ k. if g n then suc k else k) less
+          ∙ moved (g n) (count_below g n))
     ]
 
 pub none_count : (f : ℕ → Bool) (n : ℕ) → ((a : ℕ) → f a ≡ false) → count_below f n ≡ 0

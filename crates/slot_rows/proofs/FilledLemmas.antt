@@ -1,8 +1,7 @@
 -- Lemmas on the list of the words that have a mark.
-use Rattle.std.proofs.Common.{◌≡◌, ◌≢◌, ℕ, zero, suc, ◌+◌, ◌<◌, ◌≤◌, ◌⊎◌, inl, inr, Bool, true, false, List, [], ◌∷◌, ◌++◌, length, get_or, if◌then◌else◌, refl, sym, ap, subst, ◌∙◌, length-append, ◌==◌, arith}
-use Rattle.std.specs.Prelude.{slice_set, replicate, sum_by, nat_lt, not}
-use Rattle.std.proofs.Math.ListN.{length-set}
-use Rattle.std.proofs.lemmas.Bool.{cases_eq, cases_lt, lt-ltb, le-ltb, eq-eqb, ne_eqb}
+use Rattle.std.proofs.Common.{◌≡◌, ◌≢◌, ℕ, zero, suc, ◌<◌, ◌≤◌, inl, inr, List, [], ◌∷◌, ◌++◌, length, get_or, if◌then◌else◌, refl, sym, ap, subst, ◌∙◌, length-append, ◌==◌, arith}
+use Rattle.std.specs.Prelude.{slice_set, replicate, sum_by, not}
+use Rattle.std.proofs.lemmas.Bool.{cases_eq, cases_lt, lt-ltb, eq-eqb, ne_eqb}
 use Rattle.std.proofs.lemmas.List.{get_or-set_same, get_or-set_other, get_or_past}
 use Rattle.std.proofs.lemmas.List.Sums.{sum_by-cons, sum_by-set, get_or-le-sum_by}
 use Rattle.slot_rows.specs.Filled.{one_if_filled, AreFilled}
@@ -21,8 +20,8 @@ at_most_one (suc n) = omega (arith, one_of (suc n) (omega arith))
 inside : (words : List ℕ) (k : ℕ) → 0 < get_or words k 0 → k < length words
 inside words k h =
     elim (cases_lt k (length words)) [
-      inl l ↦ l
-    | inr l ↦ absurd (omega (arith, h, get_or_past words k 0 l))
+      | inl l ↦ l
+      | inr l ↦ absurd (omega (arith, h, get_or_past words k 0 l))
     ]
 
 -- there are no more filled words than words, and fewer where one is 0
@@ -42,8 +41,8 @@ room_left words filled k f l h = omega (arith, f.counted, fewer words k l h)
 pub none_filled : (words : List ℕ) → AreFilled words [] → (k : ℕ) → get_or words k 0 ≡ 0
 none_filled words f k =
     elim (cases_lt 0 (get_or words k 0)) [
-      inl l ↦ (let within = inside words k l in absurd (omega (arith, f.counted, get_or-le-sum_by one_if_filled words k 0 within, one_of (get_or words k 0) l)))
-    | inr l ↦ omega arith
+      | inl l ↦ (let within = inside words k l in absurd (omega (arith, f.counted, get_or-le-sum_by one_if_filled words k 0 within, one_of (get_or words k 0) l)))
+      | inr l ↦ omega arith
     ]
 
 zeros : (n : ℕ) → sum_by one_if_filled (replicate n 0) ≡ 0
@@ -71,24 +70,24 @@ early_item (y ∷ xs) x (suc k) l = early_item xs x k (omega arith)
 pub pushed_marked : (words filled : List ℕ) (i w : ℕ) → AreFilled words filled → i < length words → get_or words i 0 ≡ 0 → 0 < w → (k : ℕ) → k < length (filled ++ i ∷ []) → 0 < get_or (slice_set words i w) (get_or (filled ++ i ∷ []) k 0) 0
 pushed_marked words filled i w f l h p k m =
     elim (cases_lt k (length filled)) [
-      inl early ↦ (
-        let old : 0 < get_or words (get_or filled k 0) 0 = f.marked k early in
-        let other : get_or filled k 0 ≢ i = λ e. absurd (omega (arith, old, ap (λ z. get_or words z 0) e, h)) in
-        omega (arith, old, ap (λ z. get_or (slice_set words i w) z 0) (early_item filled i k early), get_or-set_other words i (get_or filled k 0) w 0 other))
-    | inr late ↦ (
-        let e : k ≡ length filled = omega (arith, length-append filled (i ∷ [])) in
-        omega (arith, p, ap (λ z. get_or (slice_set words i w) z 0) (ap (λ z. get_or (filled ++ i ∷ []) z 0) e ∙ last_item filled i), get_or-set_same words i w 0 l))
+      | inl early ↦ (
+          let old : 0 < get_or words (get_or filled k 0) 0 = f.marked k early in
+          let other : get_or filled k 0 ≢ i = λ e. absurd (omega (arith, old, ap (λ z. get_or words z 0) e, h)) in
+          omega (arith, old, ap (λ z. get_or (slice_set words i w) z 0) (early_item filled i k early), get_or-set_other words i (get_or filled k 0) w 0 other))
+      | inr late ↦ (
+          let e : k ≡ length filled = omega (arith, length-append filled (i ∷ [])) in
+          omega (arith, p, ap (λ z. get_or (slice_set words i w) z 0) (ap (λ z. get_or (filled ++ i ∷ []) z 0) e ∙ last_item filled i), get_or-set_same words i w 0 l))
     ]
 
 pub pushed_once : (words filled : List ℕ) (i : ℕ) → AreFilled words filled → get_or words i 0 ≡ 0 → (j k : ℕ) → j < k → k < length (filled ++ i ∷ []) → get_or (filled ++ i ∷ []) j 0 ≢ get_or (filled ++ i ∷ []) k 0
 pushed_once words filled i f h j k l m same =
     let early : j < length filled = omega (arith, length-append filled (i ∷ [])) in
     elim (cases_lt k (length filled)) [
-      inl both ↦ f.once j k l both (sym (early_item filled i j early) ∙ same ∙ early_item filled i k both)
-    | inr late ↦ (
-        let e : k ≡ length filled = omega (arith, length-append filled (i ∷ [])) in
-        let is : get_or filled j 0 ≡ i = sym (early_item filled i j early) ∙ same ∙ ap (λ z. get_or (filled ++ i ∷ []) z 0) e ∙ last_item filled i in
-        absurd (omega (arith, f.marked j early, ap (λ z. get_or words z 0) is, h)))
+      | inl both ↦ f.once j k l both (sym (early_item filled i j early) ∙ same ∙ early_item filled i k both)
+      | inr late ↦ (
+          let e : k ≡ length filled = omega (arith, length-append filled (i ∷ [])) in
+          let is : get_or filled j 0 ≡ i = sym (early_item filled i j early) ∙ same ∙ ap (λ z. get_or (filled ++ i ∷ []) z 0) e ∙ last_item filled i in
+          absurd (omega (arith, f.marked j early, ap (λ z. get_or words z 0) is, h)))
     ]
 
 -- a word that had no mark gets one
@@ -103,8 +102,8 @@ fill words filled i w f l h p = record {
 pub refill_marked : (words filled : List ℕ) (i w : ℕ) → AreFilled words filled → 0 < get_or words i 0 → 0 < w → (k : ℕ) → k < length filled → 0 < get_or (slice_set words i w) (get_or filled k 0) 0
 refill_marked words filled i w f h p k m =
     elim (cases_eq (get_or filled k 0) i) [
-      inl e ↦ omega (arith, p, ap (λ z. get_or (slice_set words i w) z 0) e, get_or-set_same words i w 0 (inside words i h))
-    | inr e ↦ omega (arith, f.marked k m, get_or-set_other words i (get_or filled k 0) w 0 e)
+      | inl e ↦ omega (arith, p, ap (λ z. get_or (slice_set words i w) z 0) e, get_or-set_same words i w 0 (inside words i h))
+      | inr e ↦ omega (arith, f.marked k m, get_or-set_other words i (get_or filled k 0) w 0 e)
     ]
 
 pub refill : (words filled : List ℕ) (i w : ℕ) → AreFilled words filled → 0 < get_or words i 0 → 0 < w → AreFilled (slice_set words i w) filled
@@ -144,15 +143,15 @@ unfill words filled i f = record {
 pub fill_if : (words filled after : List ℕ) (i w : ℕ) → AreFilled words filled → i < length words → 0 < w → after ≡ (if get_or words i 0 == 0 then filled ++ i ∷ [] else filled) → AreFilled (slice_set words i w) after
 fill_if words filled after i w f l p e =
     elim (cases_eq (get_or words i 0) 0) [
-      inl h ↦ subst (AreFilled (slice_set words i w)) (ap (λ t. if t then filled ++ i ∷ [] else filled) (sym (eq-eqb (get_or words i 0) 0 h)) ∙ sym e) (fill words filled i w f l h p)
-    | inr h ↦ subst (AreFilled (slice_set words i w)) (ap (λ t. if t then filled ++ i ∷ [] else filled) (sym (ne_eqb (get_or words i 0) 0 h)) ∙ sym e) (refill words filled i w f (omega arith) p)
+      | inl h ↦ subst (AreFilled (slice_set words i w)) (ap (λ t. if t then filled ++ i ∷ [] else filled) (sym (eq-eqb (get_or words i 0) 0 h)) ∙ sym e) (fill words filled i w f l h p)
+      | inr h ↦ subst (AreFilled (slice_set words i w)) (ap (λ t. if t then filled ++ i ∷ [] else filled) (sym (ne_eqb (get_or words i 0) 0 h)) ∙ sym e) (refill words filled i w f (omega arith) p)
     ]
 
 pub unfill_if : (words filled after : List ℕ) (i w : ℕ) → AreFilled words (filled ++ i ∷ []) → after ≡ (if not (w == 0) then filled ++ i ∷ [] else filled) → AreFilled (slice_set words i w) after
 unfill_if words filled after i w f e =
     elim (cases_eq w 0) [
-      inl h ↦ subst (AreFilled (slice_set words i w)) (ap (λ t. if not t then filled ++ i ∷ [] else filled) (sym (eq-eqb w 0 h)) ∙ sym e) (subst (λ z. AreFilled (slice_set words i z) filled) (sym h) (unfill words filled i f))
-    | inr h ↦ subst (AreFilled (slice_set words i w)) (ap (λ t. if not t then filled ++ i ∷ [] else filled) (sym (ne_eqb w 0 h)) ∙ sym e) (refill words (filled ++ i ∷ []) i w f (last_marked words filled i f) (omega arith))
+      | inl h ↦ subst (AreFilled (slice_set words i w)) (ap (λ t. if not t then filled ++ i ∷ [] else filled) (sym (eq-eqb w 0 h)) ∙ sym e) (subst (λ z. AreFilled (slice_set words i z) filled) (sym h) (unfill words filled i f))
+      | inr h ↦ subst (AreFilled (slice_set words i w)) (ap (λ t. if not t then filled ++ i ∷ [] else filled) (sym (ne_eqb w 0 h)) ∙ sym e) (refill words (filled ++ i ∷ []) i w f (last_marked words filled i f) (omega arith))
     ]
 
 -- the list without its last has room for it

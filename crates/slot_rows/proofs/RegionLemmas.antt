@@ -1,10 +1,10 @@
 -- Lemmas on the regions that have units, and on their order.
-use Rattle.std.proofs.Common.{◌≡◌, ◌≢◌, ℕ, zero, suc, ◌+◌, ◌<◌, ◌≤◌, ◌^◌, ◌⊎◌, inl, inr, Bool, true, false, ◌&&◌, ◌||◌, ◌==◌, List, [], ◌∷◌, ◌++◌, length, get_or, if◌then◌else◌, refl, sym, ap, subst, ◌∙◌, take, arith, ℤ, Option, Some, None}
+use Rattle.std.proofs.Common.{◌≡◌, ◌≢◌, ℕ, zero, suc, ◌+◌, ◌<◌, ◌≤◌, ◌^◌, inl, inr, Bool, true, false, ◌&&◌, List, [], ◌∷◌, ◌++◌, length, get_or, if◌then◌else◌, refl, sym, ap, subst, ◌∙◌, take, arith, ℤ, Option, Some, None}
 use Rattle.std.specs.Prelude.{nat_lt, nat_le, All}
-use Rattle.std.specs.List.{IsDistinct, AllByRecursion, list_any, filter_map, cons_option}
+use Rattle.std.specs.List.{IsDistinct, AllByRecursion, filter_map, cons_option}
 use Rattle.std.specs.Option.{option_to_list}
 use Rattle.std.specs.List.Sorted.{IsPermutation, IsNonDecreasingBy}
-use Rattle.std.proofs.lemmas.Bool.{cases_eq, cases_Bool, eqb-true, eqb-false, eq-eqb, ne_eqb, and_cases, or_cases, or_left, or_right, ltb-false, both_ways, and_parts, leb-true, ltb-true, le-leb, lt-ltb, and_from}
+use Rattle.std.proofs.lemmas.Bool.{cases_eq, eq-eqb, ne_eqb, and_cases, or_cases, or_left, or_right, ltb-false, both_ways, and_parts, leb-true, ltb-true, lt-ltb, and_from}
 use Rattle.std.proofs.lemmas.List.Elements.{All-cons, All-tail, filter_map-append}
 use Rattle.std.proofs.lemmas.List.{take_more, length-take-le}
 use Rattle.std.proofs.lemmas.List.Sorted.{All-permutation, list_any-IsPermutation}
@@ -40,8 +40,8 @@ all_placed k [] = λ i d l. absurd (omega arith)
 all_placed k (r ∷ rs) =
     let later : All (PlacedFrom k (r ∷ rs)) (spans_of (k + 1) rs) = λ i d l. placed_later k r rs (get_or (spans_of (k + 1) rs) i d) (all_placed (k + 1) rs i d l) in
     elim (cases_eq r.len 0) [
-      inl e ↦ subst (All (PlacedFrom k (r ∷ rs))) (sym (spans_no k r rs e)) later
-    | inr e ↦ subst (All (PlacedFrom k (r ∷ rs))) (sym (spans_yes k r rs e)) (All-cons (PlacedFrom k (r ∷ rs)) (record { start = r.start; len = r.len; place = k }) (spans_of (k + 1) rs) (placed_first k r rs e) later)
+      | inl e ↦ subst (All (PlacedFrom k (r ∷ rs))) (sym (spans_no k r rs e)) later
+      | inr e ↦ subst (All (PlacedFrom k (r ∷ rs))) (sym (spans_yes k r rs e)) (All-cons (PlacedFrom k (r ∷ rs)) (record { start = r.start; len = r.len; place = k }) (spans_of (k + 1) rs) (placed_first k r rs e) later)
     ]
 
 -- an address of a region is one of its span
@@ -54,14 +54,14 @@ covered_by : (k : ℕ) (rs : List Region) (a : ℕ) → has_address rs a ≡ tru
 covered_by k [] a h = absurd (cc)
 covered_by k (r ∷ rs) a h =
     elim (cases_eq r.len 0) [
-      inl e ↦ ap (λ z. has_span z a) (spans_no k r rs e) ∙ elim (or_cases (is_in a r) (has_address rs a) h) [
-          inl t ↦ absurd (omega (arith, e, in_parts a r t))
+      | inl e ↦ ap (λ z. has_span z a) (spans_no k r rs e) ∙ elim (or_cases (is_in a r) (has_address rs a) h) [
+        | inl t ↦ absurd (omega (arith, e, in_parts a r t))
         | inr t ↦ covered_by (k + 1) rs a t
-        ]
-    | inr e ↦ ap (λ z. has_span z a) (spans_yes k r rs e) ∙ elim (or_cases (is_in a r) (has_address rs a) h) [
-          inl t ↦ or_left (is_in a r) (has_span (spans_of (k + 1) rs) a) t
+      ]
+      | inr e ↦ ap (λ z. has_span z a) (spans_yes k r rs e) ∙ elim (or_cases (is_in a r) (has_address rs a) h) [
+        | inl t ↦ or_left (is_in a r) (has_span (spans_of (k + 1) rs) a) t
         | inr t ↦ or_right (is_in a r) (has_span (spans_of (k + 1) rs) a) (covered_by (k + 1) rs a t)
-        ]
+      ]
     ]
 
 -- spans overlap no more than regions
@@ -69,8 +69,8 @@ apart_from : (r : Region) (p k : ℕ) (rs : List Region) → AllByRecursion (λ 
 apart_from r p k [] h = tt
 apart_from r p k (y ∷ rs) h =
     elim (cases_eq y.len 0) [
-      inl e ↦ subst (AllByRecursion (λ t. spans_overlap (record { start = r.start; len = r.len; place = p }) t ≡ false)) (sym (spans_no k y rs e)) (apart_from r p (k + 1) rs h.1)
-    | inr e ↦ subst (AllByRecursion (λ t. spans_overlap (record { start = r.start; len = r.len; place = p }) t ≡ false)) (sym (spans_yes k y rs e)) (h.0, apart_from r p (k + 1) rs h.1)
+      | inl e ↦ subst (AllByRecursion (λ t. spans_overlap (record { start = r.start; len = r.len; place = p }) t ≡ false)) (sym (spans_no k y rs e)) (apart_from r p (k + 1) rs h.1)
+      | inr e ↦ subst (AllByRecursion (λ t. spans_overlap (record { start = r.start; len = r.len; place = p }) t ≡ false)) (sym (spans_yes k y rs e)) (h.0, apart_from r p (k + 1) rs h.1)
     ]
 
 distinct_spans : (k : ℕ) (rs : List Region) → IsDistinct overlap rs → IsDistinct spans_overlap (spans_of k rs)
@@ -78,8 +78,8 @@ unfolding IsDistinct
 distinct_spans k [] h = tt
 distinct_spans k (r ∷ rs) h =
     elim (cases_eq r.len 0) [
-      inl e ↦ subst (IsDistinct spans_overlap) (sym (spans_no k r rs e)) (distinct_spans (k + 1) rs h.1)
-    | inr e ↦ subst (IsDistinct spans_overlap) (sym (spans_yes k r rs e)) (apart_from r k (k + 1) rs h.0, distinct_spans (k + 1) rs h.1)
+      | inl e ↦ subst (IsDistinct spans_overlap) (sym (spans_no k r rs e)) (distinct_spans (k + 1) rs h.1)
+      | inr e ↦ subst (IsDistinct spans_overlap) (sym (spans_yes k r rs e)) (apart_from r k (k + 1) rs h.0, distinct_spans (k + 1) rs h.1)
     ]
 
 all_at : (P : Span → Type 0) (xs : List Span) (i : ℕ) (d : Span) → AllByRecursion P xs → i < length xs → P (get_or xs i d)
@@ -97,8 +97,8 @@ distinct_at (x ∷ xs) (suc i) (suc j) d h l m = distinct_at xs i j d h.1 (omega
 ends_before : (s t : Span) → spans_overlap s t ≡ false → s.start ≤ t.start → 0 < t.len → s.start + s.len ≤ t.start
 ends_before s t h l some =
     elim (and_cases (nat_lt s.start (t.start + t.len)) (nat_lt t.start (s.start + s.len)) h) [
-      inl e ↦ absurd (omega (arith, ltb-false s.start (t.start + t.len) e))
-    | inr e ↦ ltb-false t.start (s.start + s.len) e
+      | inl e ↦ absurd (omega (arith, ltb-false s.start (t.start + t.len) e))
+      | inr e ↦ ltb-false t.start (s.start + s.len) e
     ]
 
 and_flips : (x y : Bool) → (x && y) ≡ (y && x)
@@ -172,8 +172,8 @@ spans_append k [] qs = ap (λ j. spans_of j qs) (let e : k ≡ k + 0 = omega ari
 spans_append k (r ∷ rs) qs =
     let shifted : spans_of (k + 1 + length rs) qs ≡ spans_of (k + suc (length rs)) qs = ap (λ j. spans_of j qs) (let e : k + 1 + length rs ≡ k + suc (length rs) = omega arith in e) in
     elim (cases_eq r.len 0) [
-      inl e ↦ spans_no k r (rs ++ qs) e ∙ spans_append (k + 1) rs qs ∙ ap (λ z. z ++ spans_of (k + 1 + length rs) qs) (sym (spans_no k r rs e)) ∙ ap (λ z. spans_of k (r ∷ rs) ++ z) shifted
-    | inr e ↦ spans_yes k r (rs ++ qs) e ∙ ap (λ z. record { start = r.start; len = r.len; place = k } ∷ z) (spans_append (k + 1) rs qs) ∙ ap (λ z. z ++ spans_of (k + 1 + length rs) qs) (sym (spans_yes k r rs e)) ∙ ap (λ z. spans_of k (r ∷ rs) ++ z) shifted
+      | inl e ↦ spans_no k r (rs ++ qs) e ∙ spans_append (k + 1) rs qs ∙ ap (λ z. z ++ spans_of (k + 1 + length rs) qs) (sym (spans_no k r rs e)) ∙ ap (λ z. spans_of k (r ∷ rs) ++ z) shifted
+      | inr e ↦ spans_yes k r (rs ++ qs) e ∙ ap (λ z. record { start = r.start; len = r.len; place = k } ∷ z) (spans_append (k + 1) rs qs) ∙ ap (λ z. z ++ spans_of (k + 1 + length rs) qs) (sym (spans_yes k r rs e)) ∙ ap (λ z. spans_of k (r ∷ rs) ++ z) shifted
     ]
 
 pub spans_more : (rs : List Region) (i : ℕ) (d : Region) → i < length rs → spans_of 0 (take (i + 1) rs) ≡ spans_of 0 (take i rs) ++ spans_of i (get_or rs i d ∷ [])
@@ -186,8 +186,8 @@ pub below : (rs : List Region) (a n : ℕ) → All (λ r. r.start + r.len ≤ n)
 below [] a n all h = absurd (cc)
 below (r ∷ rs) a n all h =
     elim (or_cases (is_in a r) (has_address rs a) h) [
-      inl t ↦ omega (arith, in_parts a r t, all 0 r (omega arith))
-    | inr t ↦ below rs a n (All-tail (λ r. r.start + r.len ≤ n) r rs all) t
+      | inl t ↦ omega (arith, in_parts a r t, all 0 r (omega arith))
+      | inr t ↦ below rs a n (All-tail (λ r. r.start + r.len ≤ n) r rs all) t
     ]
 
 -- one more number

@@ -1,7 +1,7 @@
 -- Lemmas on where units are.
-use Rattle.std.proofs.Common.{◌≡◌, ◌≢◌, ℕ, zero, suc, ◌+◌, ◌-◌, ◌<◌, ◌≤◌, ◌⊎◌, inl, inr, Bool, true, false, ◌&&◌, ◌==◌, List, [], ◌∷◌, ◌++◌, length, get_or, if◌then◌else◌, refl, sym, ap, subst, ◌∙◌, length-append, append_assoc, take, arith}
+use Rattle.std.proofs.Common.{◌≡◌, ◌≢◌, ℕ, zero, suc, ◌+◌, ◌-◌, ◌<◌, ◌≤◌, inl, inr, true, false, List, [], ◌∷◌, ◌++◌, length, get_or, if◌then◌else◌, refl, sym, ap, subst, ◌∙◌, length-append, append_assoc, take, arith}
 use Rattle.std.specs.Prelude.{nat_lt, nat_le}
-use Rattle.std.proofs.lemmas.Bool.{cases_eq, cases_lt, cases_Bool, eq-eqb, ne_eqb, eqb-true, and_parts, and_from, leb-true, ltb-true, le-leb, lt-ltb, or_cases, or_left, or_right, both_ways}
+use Rattle.std.proofs.lemmas.Bool.{cases_eq, cases_lt, cases_Bool, eq-eqb, ne_eqb, and_parts, and_from, leb-true, ltb-true, le-leb, lt-ltb, or_cases, or_left, or_right, both_ways}
 use Rattle.std.proofs.lemmas.List.{append-nil, take_more}
 use Rattle.std.specs.List.Sorted.{IsPartitionedBy, IsPartitionPoint}
 use Rattle.f77_ast.specs.declared.program.Region.{Region}
@@ -42,18 +42,18 @@ pub unit_at_place : (xs : List ℕ) (a : ℕ) → place_in xs a < length xs → 
 unit_at_place [] a l = absurd (omega arith)
 unit_at_place (x ∷ xs) a l =
     elim (cases_eq x a) [
-      inl e ↦ ap (λ k. get_or (x ∷ xs) k 0) (place_here x xs a e) ∙ e
-    | inr e ↦ (
-        let k : place_in (x ∷ xs) a ≡ suc (place_in xs a) = place_later x xs a e ∙ omega arith in
-        ap (λ k. get_or (x ∷ xs) k 0) k ∙ unit_at_place xs a (omega (arith, l, k)))
+      | inl e ↦ ap (λ k. get_or (x ∷ xs) k 0) (place_here x xs a e) ∙ e
+      | inr e ↦ (
+          let k : place_in (x ∷ xs) a ≡ suc (place_in xs a) = place_later x xs a e ∙ omega arith in
+          ap (λ k. get_or (x ∷ xs) k 0) k ∙ unit_at_place xs a (omega (arith, l, k)))
     ]
 
 pub place_at_most : (xs : List ℕ) (a : ℕ) → place_in xs a ≤ length xs
 place_at_most [] a = omega arith
 place_at_most (x ∷ xs) a =
     elim (cases_eq x a) [
-      inl e ↦ omega (arith, place_here x xs a e)
-    | inr e ↦ omega (arith, place_later x xs a e, place_at_most xs a)
+      | inl e ↦ omega (arith, place_here x xs a e)
+      | inr e ↦ omega (arith, place_later x xs a e, place_at_most xs a)
     ]
 
 -- ---- the addresses of spans rise
@@ -144,16 +144,16 @@ having_later span spans address h = record { at = suc h.at; within = omega (arit
 any_later : (span : Span) (spans : List Span) (address : ℕ) → is_in address (region_of span) ≡ false → has_span (span ∷ spans) address ≡ true → has_span spans address ≡ true
 any_later span spans address e h =
     elim (or_cases (is_in address (region_of span)) (has_span spans address) h) [
-      inl t ↦ absurd (both_ways (is_in address (region_of span)) e t)
-    | inr t ↦ t
+      | inl t ↦ absurd (both_ways (is_in address (region_of span)) e t)
+      | inr t ↦ t
     ]
 
 pub having : (spans : List Span) (address : ℕ) → has_span spans address ≡ true → Having spans address
 having [] address h = absurd (cc)
 having (span ∷ spans) address h =
     elim (cases_Bool (is_in address (region_of span))) [
-      inl e ↦ having_first span spans address e
-    | inr e ↦ having_later span spans address (having spans address (any_later span spans address e h))
+      | inl e ↦ having_first span spans address e
+      | inr e ↦ having_later span spans address (having spans address (any_later span spans address e h))
     ]
 
 -- ---- a search by halves
@@ -161,8 +161,8 @@ having (span ∷ spans) address h =
 starts_rise : (spans : List Span) (i j : ℕ) (d : Span) → AreApart spans → i ≤ j → j < length spans → (get_or spans i d).start ≤ (get_or spans j d).start
 starts_rise spans i j d a l m =
     elim (cases_eq i j) [
-      inl e ↦ omega (arith, ap (λ k. (get_or spans k d).start) e)
-    | inr e ↦ omega (arith, a.rising i j d (omega arith) m)
+      | inl e ↦ omega (arith, ap (λ k. (get_or spans k d).start) e)
+      | inr e ↦ omega (arith, a.rising i j d (omega arith) m)
     ]
 
 pub partitioned : (spans : List Span) (address : ℕ) → AreApart spans → IsPartitionedBy (λ span. nat_le span.start address) spans
@@ -183,10 +183,10 @@ found_early spans address n a h bound p early =
 pub found : (spans : List Span) (address n : ℕ) → AreApart spans → (h : Having spans address) → n ≤ length spans → IsPartitionPoint (λ span. nat_le span.start address ≡ true) (λ span. nat_le span.start address ≡ false) spans n → n ≡ suc h.at
 found spans address n a h bound p =
     elim (cases_lt h.at n) [
-      inr late ↦ found_late spans address n h p late
-    | inl early ↦ elim (cases_eq n (suc h.at)) [
-        inl e ↦ e
-      | inr e ↦ found_early spans address n a h bound p (omega arith)
+      | inr late ↦ found_late spans address n h p late
+      | inl early ↦ elim (cases_eq n (suc h.at)) [
+        | inl e ↦ e
+        | inr e ↦ found_early spans address n a h bound p (omega arith)
       ]
     ]
 
@@ -232,16 +232,16 @@ pub unit_having : (spans : List Span) (u : ℕ) → u < length (addresses_of spa
 unit_having [] u l = absurd (omega arith)
 unit_having (span ∷ spans) u l =
     elim (cases_lt u span.len) [
-      inl early ↦ (
-        let is = first_part_of span.start span.len (addresses_of spans) u early in
-        let parts = in_run_of span.start span.len u early in
-        having_run span spans (get_or (run span.start span.len ++ addresses_of spans) u 0) (omega (arith, is, parts.0)) (omega (arith, is, parts.1)))
-    | inr late ↦ (
-        let k : ℕ = u - span.len in
-        let moved : u ≡ span.len + k = omega arith in
-        let is : get_or (run span.start span.len ++ addresses_of spans) u 0 ≡ get_or (addresses_of spans) k 0 = ap (λ j. get_or (run span.start span.len ++ addresses_of spans) j 0) moved ∙ after_run span.start span.len (addresses_of spans) k in
-        let within : k < length (addresses_of spans) = omega (arith, l, length-append (run span.start span.len) (addresses_of spans), length-run span.start span.len) in
-        subst (Having (span ∷ spans)) (sym is) (having_later span spans (get_or (addresses_of spans) k 0) (unit_having spans k within)))
+      | inl early ↦ (
+          let is = first_part_of span.start span.len (addresses_of spans) u early in
+          let parts = in_run_of span.start span.len u early in
+          having_run span spans (get_or (run span.start span.len ++ addresses_of spans) u 0) (omega (arith, is, parts.0)) (omega (arith, is, parts.1)))
+      | inr late ↦ (
+          let k : ℕ = u - span.len in
+          let moved : u ≡ span.len + k = omega arith in
+          let is : get_or (run span.start span.len ++ addresses_of spans) u 0 ≡ get_or (addresses_of spans) k 0 = ap (λ j. get_or (run span.start span.len ++ addresses_of spans) j 0) moved ∙ after_run span.start span.len (addresses_of spans) k in
+          let within : k < length (addresses_of spans) = omega (arith, l, length-append (run span.start span.len) (addresses_of spans), length-run span.start span.len) in
+          subst (Having (span ∷ spans)) (sym is) (having_later span spans (get_or (addresses_of spans) k 0) (unit_having spans k within)))
     ]
 
 abbrev pub no_region : Region
@@ -281,8 +281,8 @@ place_is [] i a h l has = absurd (omega arith)
 place_is (r ∷ regions) zero a h l has = sym (place_first r regions a (has r))
 place_is (r ∷ regions) (suc i) a h l has =
     elim (cases_Bool (is_in a r)) [
-      inl t ↦ absurd (h.alone 0 (suc i) a r (omega arith) l t (has r))
-    | inr t ↦ omega (arith, place_more r regions a t, place_is regions i a (tail_alone r regions h) (omega arith) has)
+      | inl t ↦ absurd (h.alone 0 (suc i) a r (omega arith) l t (has r))
+      | inr t ↦ omega (arith, place_more r regions a t, place_is regions i a (tail_alone r regions h) (omega arith) has)
     ]
 
 pub found_at : (spans ys : List Span) (address n : ℕ) → ys ≡ spans → AreApart spans → (h : Having spans address) → n ≤ length ys → IsPartitionPoint (λ span. nat_le span.start address ≡ true) (λ span. nat_le span.start address ≡ false) ys n → n ≡ suc h.at

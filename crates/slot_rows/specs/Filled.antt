@@ -1,5 +1,5 @@
 -- Words of marks, and the list of those that have a mark.
-use Rattle.std.specs.Prelude.{◌≡◌, ◌≢◌, ℕ, ◌<◌, Bool, nat_lt, List, length, slice_index, sum_by, if◌then◌else◌}
+use Rattle.std.specs.Prelude.{◌≡◌, ◌≢◌, ℕ, ◌<◌, nat_lt, List, length, slice_index, sum_by, if◌then◌else◌}
 
 -- 1 for a word that has a mark
 abbrev pub one_if_filled : ℕ → ℕ

@@ -1,5 +1,5 @@
 -- The regions of some numbers.
-use Rattle.std.specs.Prelude.{ℕ, ℤ, pos, negsuc, List, Option, None, slice_get}
+use Rattle.std.specs.Prelude.{ℤ, pos, negsuc, List, Option, None, slice_get}
 use Rattle.f77_ast.specs.declared.program.Region.{Region}
 
 -- the region of a number, which is its place in the list

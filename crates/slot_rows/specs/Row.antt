@@ -1,5 +1,5 @@
 -- The numbers of one slot.
-use Rattle.std.specs.Prelude.{ℕ, ℤ, List, Option, None, slice_get, vec_len, if◌then◌else◌}
+use Rattle.std.specs.Prelude.{ℕ, ℤ, Option, None, slice_get, vec_len, if◌then◌else◌}
 use Rattle.slot_rows.specs.declared.row.Row.{Row}
 use Rattle.slot_rows.specs.Marks.{is_marked}
 

@@ -6,9 +6,8 @@
 
 mod marks;
 mod row;
+pub mod rows;
 mod table;
 mod word;
-
-pub mod rows;
 
 pub use rows::Rows;

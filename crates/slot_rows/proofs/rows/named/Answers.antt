@@ -1,4 +1,4 @@
-use Rattle.std.proofs.Common.{◌≡◌, ◌<◌, ◌++◌, pos, length, get_or, ap, sym, ◌∙◌, arith, rules, FitsSigned, w64}
+use Rattle.std.proofs.Common.{◌++◌, pos, get_or, ap, sym, ◌∙◌, arith, rules, FitsSigned, w64}
 use Rattle.std.specs.Option.{option_to_list}
 use Rattle.std.proofs.lemmas.Int.{to_z-of_z}
 use Rattle.slot_rows.specs.Regions.{region_at}

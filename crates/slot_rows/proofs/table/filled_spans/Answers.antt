@@ -1,4 +1,4 @@
-use Rattle.std.proofs.Common.{◌≡◌, ◌<◌, ◌++◌, ◌∷◌, [], length, get_or, ap, sym, ◌∙◌, arith}
+use Rattle.std.proofs.Common.{◌++◌, ◌∷◌, [], get_or, ap, sym, ◌∙◌, arith}
 use Rattle.slot_rows.specs.Spans.{spans_of}
 use Rattle.slot_rows.proofs.RegionLemmas.{spans_more}
 use Rattle.slot_rows.proofs.SpanLemmas.{no_region}

@@ -1,4 +1,4 @@
-use Rattle.std.proofs.Common.{◌≡◌, ◌<◌, ◌++◌, ◌∷◌, [], length, get_or, take, ap, sym, ◌∙◌, arith, rules}
+use Rattle.std.proofs.Common.{◌≡◌, ◌<◌, ◌++◌, ◌∷◌, [], length, get_or, take, ap, sym, ◌∙◌, arith}
 use Rattle.slot_rows.specs.Spans.{run, addresses_of, befores_of}
 use Rattle.slot_rows.proofs.SpanLemmas.{befores_next, addresses_next, no_span}
 use Rattle.slot_rows.proofs.table.laid_out.Goals as goal

@@ -1,4 +1,4 @@
-use Rattle.std.proofs.Common.{◌≡◌, ◌+◌, ◌++◌, ◌∷◌, [], ap, sym, ◌∙◌, append_assoc, rules}
+use Rattle.std.proofs.Common.{◌+◌, ◌++◌, ◌∷◌, [], ap, sym, ◌∙◌, append_assoc}
 use Rattle.slot_rows.specs.Spans.{run}
 use Rattle.slot_rows.proofs.SpanLemmas.{run_more}
 use Rattle.slot_rows.proofs.table.push_run.Goals as goal

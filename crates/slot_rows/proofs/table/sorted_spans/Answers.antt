@@ -1,8 +1,7 @@
-use Rattle.std.proofs.Common.{◌≡◌, subst, sym, rules, List}
+use Rattle.std.proofs.Common.{subst, rules}
 use Rattle.std.specs.List.Sorted.{IsPermutation}
 use Rattle.std.proofs.lemmas.List.Sorted.{IsNonDecreasingBy-from_sort_by_key}
 use Rattle.slot_rows.specs.Spans.{spans_of}
-use Rattle.slot_rows.specs.declared.table.Span.{Span}
 use Rattle.slot_rows.proofs.RegionLemmas.{apart, placed, covered, within}
 use Rattle.slot_rows.proofs.table.sorted_spans.Goals as goal
 

@@ -1,4 +1,4 @@
-use Rattle.std.proofs.Common.{arith, w64, bit_or, ◌*◌, ◌%◌, ◌^◌}
+use Rattle.std.proofs.Common.{w64, bit_or, ◌*◌, ◌%◌, ◌^◌}
 use Rattle.std.proofs.lemmas.Nat.Bits.{bit_at_set_same, bit_at_set_other}
 use Rattle.slot_rows.proofs.Bits.{filled_by_bit}
 use Rattle.slot_rows.proofs.word.with_mark.Goals as goal

@@ -1,5 +1,5 @@
-use Rattle.std.proofs.Common.{◌≡◌, ◌≢◌, ℕ, ℤ, ◌+◌, ◌<◌, ◌≤◌, length, get_or, Some, None, refl, sym, ap, subst, ◌∙◌, arith, rules, FitsSigned, w64}
-use Rattle.std.specs.Prelude.{All, unwrap_or, slice_set}
+use Rattle.std.proofs.Common.{◌≡◌, ◌+◌, ◌<◌, ◌≤◌, length, sym, ap, subst, ◌∙◌, arith, rules, FitsSigned, w64}
+use Rattle.std.specs.Prelude.{All, slice_set}
 use Rattle.std.proofs.Math.ListN.{length-set}
 use Rattle.std.proofs.lemmas.Int.{to_z-of_z}
 use Rattle.slot_rows.specs.Rows.{number_at, regions_of}

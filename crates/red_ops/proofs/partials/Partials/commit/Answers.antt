@@ -1,10 +1,9 @@
-use Rattle.std.proofs.Common.{◌≡◌, ◌≢◌, ℕ, ℤ, ◌+◌, ◌<◌, ◌≤◌, length, get_or, Some, None, refl, sym, ap, subst, ◌∙◌, arith, rules, FitsSigned, w64}
+use Rattle.std.proofs.Common.{◌≡◌, ℕ, ℤ, ◌+◌, ◌<◌, ◌≤◌, length, get_or, sym, ap, subst, ◌∙◌, arith, rules, FitsSigned, w64}
 use Rattle.std.specs.Prelude.{All, slice_set, is_some}
 use mir.Val.{to_z, of_z}
 use Rattle.std.proofs.Math.ListN.{length-set}
 use Rattle.std.proofs.lemmas.Int.{to_z-of_z}
 use Rattle.std.proofs.lemmas.Option.{get_or_from_slice_get}
-use Rattle.hyb_base.specs.declared.ops.RedOp.{RedOp}
 use Rattle.hyb_base.specs.declared.ops.RedOp.TheVariants.{Add}
 use Rattle.hyb_base.specs.Reduction.{apply}
 use Rattle.slot_rows.specs.Rows.{number_at, written_count, regions_of}

@@ -1,4 +1,4 @@
-use Rattle.std.proofs.Common.{◌≡◌, ◌≢◌, ℕ, ℤ, ◌+◌, ◌-◌, ◌^◌, length, get_or}
+use Rattle.std.proofs.Common.{◌≡◌, ◌≢◌, ℕ, ℤ, length, get_or}
 use Rattle.slot_rows.specs.Rows.{number_at, written_count, window_of, regions_of}
 use Rattle.red_ops.specs.Partials.{op_at, combined, reads_after}
 use Rattle.red_ops.proofs.partials.Partials.commit.Given as goal

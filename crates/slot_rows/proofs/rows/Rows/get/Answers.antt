@@ -1,9 +1,8 @@
-use Rattle.std.proofs.Common.{◌≡◌, ℕ, ◌<◌, length, get_or, ap, sym, ◌∙◌, arith, rules, None, Some, refl}
+use Rattle.std.proofs.Common.{ℕ, ◌<◌, length, ap, sym, ◌∙◌, arith, refl}
 use Rattle.std.proofs.lemmas.Option.{slice_get_read}
 use Rattle.slot_rows.specs.Row.{number_in}
 use Rattle.slot_rows.specs.Rows.{number_at}
-use Rattle.slot_rows.specs.Spans.{place_in}
-use Rattle.slot_rows.proofs.RowLemmas.{changed_here, changed_others, other_slots, emptied, number_here}
+use Rattle.slot_rows.proofs.RowLemmas.{number_here}
 use Rattle.slot_rows.proofs.rows.Rows.get.Goals as goal
 
 pub returns : goal.returns

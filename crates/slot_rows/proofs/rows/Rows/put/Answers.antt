@@ -1,10 +1,9 @@
-use Rattle.std.proofs.Common.{◌≡◌, ℕ, ◌<◌, length, get_or, ap, sym, ◌∙◌, arith, rules, None, Some, refl, FitsSigned, w64, ◌==◌, if◌then◌else◌}
+use Rattle.std.proofs.Common.{ℕ, ◌<◌, length, ap, ◌∙◌, arith, rules, Some, refl, FitsSigned, w64, ◌==◌, if◌then◌else◌}
 use Rattle.std.proofs.lemmas.Int.{to_z-of_z}
 use Rattle.std.proofs.lemmas.Option.{slice_get_read}
 use Rattle.slot_rows.specs.Row.{number_in}
 use Rattle.slot_rows.specs.Rows.{number_at}
-use Rattle.slot_rows.specs.Spans.{place_in}
-use Rattle.slot_rows.proofs.RowLemmas.{Changes, changed_here, changed_others, other_slots, emptied, number_here}
+use Rattle.slot_rows.proofs.RowLemmas.{Changes, changed_here, changed_others, other_slots}
 use Rattle.slot_rows.proofs.rows.Rows.put.Goals as goal
 
 pub returns : goal.returns

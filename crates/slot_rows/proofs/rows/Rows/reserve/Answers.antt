@@ -1,6 +1,5 @@
-use Rattle.std.proofs.Common.{◌≡◌, ℕ, ◌+◌, ◌<◌, ◌≤◌, ◌^◌, ◌∙◌, List, length, ap, sym, subst, arith, rules}
+use Rattle.std.proofs.Common.{◌≡◌, ◌+◌, ◌≤◌, ◌∙◌, ap, sym, subst, arith}
 use Rattle.std.specs.Prelude.{All}
-use Rattle.f77_ast.specs.declared.program.Region.{Region}
 use Rattle.slot_rows.specs.Rows.{number_at, regions_named}
 use Rattle.slot_rows.specs.Spans.{place_in}
 use Rattle.slot_rows.proofs.RowLemmas.{none_anywhere}

@@ -1,4 +1,4 @@
-use Rattle.std.proofs.Common.{◌≡◌, ℕ, ◌<◌, length, get_or, ap, sym, ◌∙◌, arith, rules, None, Some, refl, FitsSigned, w64}
+use Rattle.std.proofs.Common.{ℕ, ◌<◌, length, ap, sym, ◌∙◌, arith, rules, None, Some, refl, FitsSigned, w64}
 use Rattle.std.proofs.lemmas.Int.{to_z-of_z}
 use Rattle.std.proofs.lemmas.Option.{slice_get_read}
 use Rattle.slot_rows.specs.Row.{number_in}
@@ -14,13 +14,15 @@ returns-in-None-clause-none c =
     let xs = c.args.self.now.table.addresses.items in
     let slot : ℕ = c.args.slot in
     let within : slot < length rows = omega (arith, c.requires, c.args.self.now.rows.ok.0) in
-    let was = slice_get_read rows (length rows) slot c.index_mut.result.now refl within (search rules) in
-    (record {
-      here = emptied rows xs slot c.take.new.self within c.in-None.ensures.empty;
-      slots = other_slots rows xs slot c.take.new.self;
-      window = refl;
-      regions = refl;
-    }, λ a. number_here rows xs slot a c.index_mut.result.now was ∙ c.in-None.ensures.none (place_in xs a))
+    let was = slice_get_read rows (length rows) slot c.index_mut.result.now refl within (search rules) in (
+      record {
+        here = emptied rows xs slot c.take.new.self within c.in-None.ensures.empty;
+        slots = other_slots rows xs slot c.take.new.self;
+        window = refl;
+        regions = refl;
+      },
+      λ a. number_here rows xs slot a c.index_mut.result.now was ∙ c.in-None.ensures.none (place_in xs a),
+    )
 
 pub returns-in-Some-clause-was : goal.returns-in-Some-clause-was
 unfolding number_at

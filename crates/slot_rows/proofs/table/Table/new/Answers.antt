@@ -1,5 +1,5 @@
-use Rattle.std.proofs.Common.{◌≡◌, ◌∙◌, ap, sym, subst, rules, true}
-use Rattle.slot_rows.specs.Spans.{ArePlaced, has_address, has_span, befores_of, addresses_of}
+use Rattle.std.proofs.Common.{◌∙◌, ap, subst}
+use Rattle.slot_rows.specs.Spans.{ArePlaced, has_address, befores_of, addresses_of}
 use Rattle.slot_rows.proofs.RegionLemmas.{alone}
 use Rattle.slot_rows.proofs.table.Table.new.Goals as goal
 

@@ -1,8 +1,5 @@
-use Rattle.std.proofs.Common.{◌≡◌, ℕ, ◌+◌, ◌-◌, ◌<◌, ◌≤◌, ◌++◌, ◌∷◌, [], length, get_or, ap, sym, subst, ◌∙◌, arith, rules, vec_len}
-use Rattle.std.specs.Prelude.{nat_le}
-use Rattle.std.proofs.lemmas.List.{get_or_default}
-use Rattle.slot_rows.specs.Spans.{AreApart, addresses_of, befores_of, place_in, place_with}
-use Rattle.slot_rows.proofs.SpanLemmas.{Rise, Having, having, addresses_rise, place_of_unit, unit_having, has_by_span, no_span, no_region, found_at, unit_of_address, length-befores_of, partitioned, region_has, place_is}
+use Rattle.std.proofs.Common.{◌≡◌, ℕ, ◌<◌, length, get_or, ap, ◌∙◌, arith}
+use Rattle.slot_rows.proofs.SpanLemmas.{region_has, place_is}
 use Rattle.slot_rows.proofs.table.Table.place_of.Goals as goal
 
 pub returns-clause-place : goal.returns-clause-place
