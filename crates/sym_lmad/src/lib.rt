@@ -1,0 +1,7 @@
+//! Symbols over the bindings and the storage of a program, what they are worth, and descriptors of addresses.
+#![tactic(auto)]
+
+pub mod copy;
+pub mod same;
+pub mod sym;
+pub mod value;
