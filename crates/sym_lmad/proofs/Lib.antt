@@ -1,2 +1,7 @@
 pub mod Bindings
+pub mod GainLaws
+pub mod Lists
+pub mod Near
+pub mod NumberLaws
+pub mod PutLaws
 pub mod Symbols

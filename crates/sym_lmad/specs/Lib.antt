@@ -1,3 +1,6 @@
 pub mod Bindings
+pub mod Gain
 pub mod Naming
+pub mod Numbers
+pub mod Put
 pub mod Worth

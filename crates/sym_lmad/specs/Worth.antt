@@ -36,7 +36,7 @@ first_by None = None
 
 -- an address as a number
 abbrev pub number_by : Option ℕ → Option ℤ
-number_by (Some a) = Some (pos a)
+number_by (Some a) = near_of (pos a)
 number_by None = None
 
 -- the value of an entity's first cell, or the value that the entity is bound to

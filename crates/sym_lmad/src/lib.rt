@@ -2,6 +2,9 @@
 #![tactic(auto)]
 
 pub mod copy;
+pub mod gain;
+pub mod numbers;
+pub mod put;
 pub mod same;
 pub mod sym;
 pub mod value;

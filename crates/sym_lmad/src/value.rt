@@ -72,7 +72,7 @@ fn address(first: Option<u32>) -> Option<i64>
     ensures { result ≡ number_by first }
 {
     match first {
-        Some(address) => Some(address as i64),
+        Some(address) => near_value(address as i64),
         None => None,
     }
 }
