@@ -1,6 +1,9 @@
 pub mod Bindings
+pub mod EndLaws
 pub mod GainLaws
+pub mod Intervals
 pub mod Lists
+pub mod MemberLaws
 pub mod Near
 pub mod NumberLaws
 pub mod PutLaws

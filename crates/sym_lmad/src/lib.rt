@@ -2,7 +2,11 @@
 #![tactic(auto)]
 
 pub mod copy;
+pub mod each;
+pub mod ends;
 pub mod gain;
+pub mod interval;
+pub mod lmad;
 pub mod numbers;
 pub mod put;
 pub mod same;

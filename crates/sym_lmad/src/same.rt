@@ -1,12 +1,14 @@
 //! Which symbols are equal.
 ghost use Rattle.std.specs.Prelude.{◌≡◌, ◌↔◌, IsTrue};
+ghost use Rattle.sym_lmad.specs.Same.{same_of};
 
 use crate::sym::Sym;
 
 /// Whether two symbols are equal: of the same shape, with the same numbers at the same places.
 #[cycle(same)]
 pub fn same(a: &Sym, b: &Sym) -> bool
-    ensures { IsTrue result ↔ (a.now ≡ b.now) }
+    ensures value { result ≡ same_of a.now b.now }
+    ensures same { IsTrue result ↔ (a.now ≡ b.now) }
 {
     match (a, b) {
         (Sym::Lit(x), Sym::Lit(y)) => *x == *y,
