@@ -1,5 +1,5 @@
 -- Where bindings fit cells, what they name are cells.
-use Rattle.std.proofs.Common.{◌≡◌, ℕ, ◌<◌, ◌^◌, ℤ, pos, negsuc, Bool, true, false, Option, None, Some, IfSome, IsTrue, slice_get, if◌then◌else◌, refl, subst, sym}
+use Rattle.std.proofs.Common.{◌≡◌, ℕ, ◌<◌, ◌^◌, ℤ, pos, negsuc, Bool, true, false, Option, None, Some, IfSome, IsTrue, slice_get, if◌then◌else◌, refl}
 use Rattle.hyb_base.specs.declared.env.Base.TheVariants.{At}
 use Rattle.hyb_base.specs.declared.env.Env.{Env}
 use Rattle.sym_lmad.specs.Bindings.{FitsCells, IsOfNamed, IsAddressOf, region_of, start_of, length_of, is_within, address_in, address_by}

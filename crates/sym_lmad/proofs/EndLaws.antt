@@ -1,7 +1,7 @@
 -- The ends that are found dimension by dimension are the least and the greatest member.
-use Rattle.std.proofs.Common.{◌≡◌, ℕ, zero, suc, ℤ, pos, negsuc, ◌+ℤ◌, ◌-ℤ◌, ◌*ℤ◌, ◌<ℤ◌, ◌≤ℤ◌, Bool, true, false, List, [], ◌∷◌, Option, Some, None, IfSome, IfNone, int_lt, if◌then◌else◌, IsTrue, refl, ap, sym, subst, ◌∙◌, arith}
+use Rattle.std.proofs.Common.{◌≡◌, ℕ, zero, suc, ℤ, pos, negsuc, ◌+ℤ◌, ◌-ℤ◌, ◌*ℤ◌, ◌<ℤ◌, ◌≤ℤ◌, Bool, true, false, List, [], ◌∷◌, Option, Some, None, IfSome, IfNone, int_lt, if◌then◌else◌, refl, ap, sym, subst, ◌∙◌, arith}
 use Rattle.std.proofs.lemmas.Int.{ints}
-use Rattle.std.proofs.Math.IntN.{zero-*ℤ, *ℤ-zero, *ℤ-one}
+use Rattle.std.proofs.Math.IntN.{*ℤ-zero, *ℤ-one}
 use Rattle.hyb_base.specs.declared.env.Env.{Env}
 use Rattle.hyb_base.specs.Near.{IsNear}
 use Rattle.sym_lmad.specs.declared.lmad.Dim.{Dim}
@@ -9,7 +9,7 @@ use Rattle.sym_lmad.specs.declared.lmad.Extent.{Extent}
 use Rattle.sym_lmad.specs.declared.lmad.Lmad.{Lmad}
 use Rattle.sym_lmad.specs.declared.sym.Sym.{Sym}
 use Rattle.sym_lmad.specs.Ends.{pair_by, low_by, high_by, last_by, widened, widened_to, widened_by, go_on, ends_by, ends_of_dims}
-use Rattle.sym_lmad.specs.Members.{IsReached, extents_and, extents_by, Placed, IsMember, AreEnds, AreNearEnds}
+use Rattle.sym_lmad.specs.Members.{IsReached, extents_and, extents_by, Placed, IsMember, AreNearEnds}
 use Rattle.sym_lmad.specs.Worth.{near_of, worth_of}
 use Rattle.sym_lmad.proofs.GainLaws.{distributes}
 use Rattle.sym_lmad.proofs.Near.{some_is, near_is, near_bounds, near_some}

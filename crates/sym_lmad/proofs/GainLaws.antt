@@ -1,5 +1,5 @@
 -- A symbol with a gain is a line in the index; and why a symbol has none that fits.
-use Rattle.std.proofs.Common.{◌≡◌, ◌≢◌, ℕ, zero, suc, ◌<◌, ◌==◌, ◌⊎◌, inl, inr, ℤ, pos, negsuc, ◌+ℤ◌, ◌-ℤ◌, ◌*ℤ◌, Bool, true, false, List, length, Option, Some, None, IfNone, SomeIff, FitsSigned, slice_get, slice_set, unwrap_or, if◌then◌else◌, refl, ap, sym, subst, ◌∙◌, arith}
+use Rattle.std.proofs.Common.{◌≡◌, ℕ, zero, suc, ◌<◌, ◌==◌, ◌⊎◌, inl, inr, ℤ, pos, negsuc, ◌+ℤ◌, ◌-ℤ◌, ◌*ℤ◌, Bool, true, false, List, length, Option, Some, None, IfNone, SomeIff, FitsSigned, slice_get, slice_set, unwrap_or, if◌then◌else◌, refl, ap, sym, subst, ◌∙◌, arith}
 use Rattle.std.specs.Int.{w128}
 use Rattle.std.proofs.lemmas.Int.{ints}
 use Rattle.std.proofs.lemmas.Bool.{eqb-true, eqb-false}
@@ -9,12 +9,12 @@ use Rattle.hyb_base.specs.Wrap.{wrapped}
 use Rattle.sym_lmad.specs.declared.sym.Sym.{Sym}
 use Rattle.sym_lmad.specs.declared.sym.Sym.TheVariants as s
 use Rattle.sym_lmad.specs.Gain.{gain_of, gain_step, still, gain_of_index, sum_of_gains, multiple_of_gain, IsWide, HasWidePart, itself, in_place, in_left, in_right, in_inner, at_index, IsLine, GainMakesLine}
-use Rattle.sym_lmad.specs.Numbers.{Numbers, numbers_step, numbers_of, run_of, whole_of, element_or_zero}
+use Rattle.sym_lmad.specs.Numbers.{Numbers, numbers_step, numbers_of, element_or_zero}
 use Rattle.sym_lmad.specs.Worth.{first_by}
 use Rattle.sym_lmad.proofs.Lists.{get_same, get_other}
 use Rattle.sym_lmad.proofs.Near.{some_is}
 use Rattle.sym_lmad.proofs.NumberLaws.{wraps_once}
-use Rattle.sym_lmad.proofs.Symbols.{IsKept, induction, fold_lit, fold_addr, fold_cell, fold_elem, fold_index, fold_add, fold_mul}
+use Rattle.sym_lmad.proofs.Symbols.{induction, fold_lit, fold_addr, fold_cell, fold_elem, fold_index, fold_add, fold_mul}
 
 pub distributes : (c x y : ℤ) → c *ℤ (x +ℤ y) ≡ c *ℤ x +ℤ c *ℤ y
 distributes (pos zero) x y = rw (zero-*ℤ (x +ℤ y), zero-*ℤ x, zero-*ℤ y) refl
@@ -126,7 +126,8 @@ module _ (env : Env) (values : List ℤ) (index : ℕ) (place : index < length e
     at_elem = λ e x ih gain h. moved _ _ gain (λ n. ap whole (fold_elem Numbers (numbers_step (at_index env index n) values) e x)) (element_line e x ih gain (sym (fold_elem (Option ℤ) (gain_step index) e x) ∙ h));
     at_index = λ k gain h. moved _ _ gain (λ n. ap whole (fold_index Numbers (numbers_step (at_index env index n) values) k)) (index_line k gain (sym (fold_index (Option ℤ) (gain_step index) k) ∙ h));
     at_add = λ x y h k gain e. moved _ _ gain (λ n. ap whole (fold_add Numbers (numbers_step (at_index env index n) values) x y)) (sum_line x y (gain_of index x) (gain_of index y) h k gain (sym (fold_add (Option ℤ) (gain_step index) x y) ∙ e));
-    at_mul = λ c x h gain e. moved _ _ gain (λ n. ap whole (fold_mul Numbers (numbers_step (at_index env index n) values) c x)) (product_line c x (gain_of index x) h gain (sym (fold_mul (Option ℤ) (gain_step index) c x) ∙ e)) })
+    at_mul = λ c x h gain e. moved _ _ gain (λ n. ap whole (fold_mul Numbers (numbers_step (at_index env index n) values) c x)) (product_line c x (gain_of index x) h gain (sym (fold_mul (Option ℤ) (gain_step index) c x) ∙ e));
+  })
 
 pub gain_makes_line : GainMakesLine
 gain_makes_line env values index x gain place h = lies_on_line env values index place x gain h

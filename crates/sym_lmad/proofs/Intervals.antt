@@ -2,7 +2,7 @@
 use Rattle.std.proofs.Common.{◌≡◌, ◌↔◌, ℤ, ◌≤ℤ◌, ◌<ℤ◌, Bool, true, false, int_lt, IsTrue, refl, arith}
 use Rattle.std.specs.Int.{int_max, int_min}
 use Rattle.std.proofs.lemmas.Int.{ints, clamps}
-use Rattle.sym_lmad.specs.Interval.{IsIn, AreDisjoint}
+use Rattle.sym_lmad.specs.Interval.{AreDisjoint}
 
 pub disjoint_is : (a b c d low high : ℤ) → low ≡ int_max a c → high ≡ int_min b d → IsTrue (int_lt high low) ↔ AreDisjoint a b c d
 disjoint_is a b c d low high is_low is_high = (apart, λ h. meets (int_lt high low) refl h)

@@ -1,8 +1,7 @@
 -- The members that are listed are the members that are reached.
-use Rattle.std.proofs.Common.{◌≡◌, ◌↔◌, ℕ, zero, suc, ◌+◌, ◌<◌, ℤ, pos, negsuc, ◌+ℤ◌, ◌*ℤ◌, ◌<ℤ◌, ◌≤ℤ◌, min, Bool, true, false, ◌&&◌, Result, Ok, Err, OnErr, IfOk, List, [], ◌∷◌, ◌++◌, length, slice_index_or, Option, Some, None, ◌⊎◌, inl, inr, Contains, is_some, int_lt, if◌then◌else◌, IsTrue, refl, ap, sym, subst, ◌∙◌, append_assoc, arith, add-one}
+use Rattle.std.proofs.Common.{◌≡◌, ℕ, zero, suc, ◌+◌, ◌<◌, ℤ, pos, negsuc, ◌+ℤ◌, ◌*ℤ◌, ◌<ℤ◌, ◌≤ℤ◌, min, Bool, true, false, ◌&&◌, Result, Ok, Err, OnErr, IfOk, List, [], ◌∷◌, ◌++◌, length, slice_index_or, Option, Some, None, ◌⊎◌, inl, inr, Contains, is_some, int_lt, if◌then◌else◌, refl, ap, sym, subst, ◌∙◌, append_assoc, arith, add-one}
 use Rattle.std.specs.Ordering.{int_eq}
 use Rattle.std.specs.Bool.{MatchBool}
-use Rattle.std.specs.List.{list_all}
 use Rattle.std.proofs.lemmas.Int.{ints}
 use Rattle.std.proofs.lemmas.List.Elements.{Contains-append_left, Contains-append_right, Contains-append_cases}
 use Rattle.std.proofs.Math.IntN.{zero-*ℤ}
@@ -13,10 +12,10 @@ use Rattle.sym_lmad.specs.declared.lmad.Extent.{Extent}
 use Rattle.sym_lmad.specs.declared.lmad.Lmad.{Lmad}
 use Rattle.sym_lmad.specs.declared.sym.Sym.{Sym}
 use Rattle.sym_lmad.specs.Ends.{ends_by}
-use Rattle.sym_lmad.specs.Members.{IsReached, extents_and, extents_by, extents_onto, Placed, IsMember, count_of, turns_of, in_turn, members_of, are_positive, AreNear, AddsMembers, LacksMembers, AddsFirst, AddsSome, MembersAreListed}
+use Rattle.sym_lmad.specs.Members.{IsReached, extents_and, extents_by, extents_onto, Placed, count_of, turns_of, in_turn, members_of, are_positive, AreNear, AddsMembers, LacksMembers, AddsFirst, AddsSome, MembersAreListed}
 use Rattle.sym_lmad.specs.Worth.{near_of, worth_of}
-use Rattle.sym_lmad.proofs.EndLaws.{ArePositive, Found, found, ends_are_found, itself_reached, least, greatest, least_bound, greatest_bound, least_reached, greatest_reached, same_place}
-use Rattle.sym_lmad.proofs.Near.{some_is, near_bounds, near_some}
+use Rattle.sym_lmad.proofs.EndLaws.{ArePositive, Found, found, ends_are_found, itself_reached, least, greatest, least_bound, greatest_bound, least_reached, greatest_reached}
+use Rattle.sym_lmad.proofs.Near.{near_bounds, near_some}
 
 -- ---- turns
 
@@ -190,10 +189,16 @@ pub adds_first_turn : (i n : ℕ) (f : ℕ → List ℤ) (old mid new : List ℤ
 adds_first_turn i n f old mid new h is adds =
     let later = in_turn_later i n f h in
     let first = adds.0 in
-    let rest = adds.1.0 in
-    (in_turn i f ++ first, (rest ++ later.0,
-    (later.1 ∙ ap (λ t. t ++ later.0) (in_turn_more i f ∙ ap (λ t. in_turn i f ++ t) adds.1.1.0) ∙ ap (λ t. t ++ later.0) (sym (append_assoc (in_turn i f) first rest)) ∙ append_assoc (in_turn i f ++ first) rest later.0,
-    adds.1.1.1 ∙ ap (λ t. t ++ first) is ∙ append_assoc old (in_turn i f) first)))
+    let rest = adds.1.0 in (
+      in_turn i f ++ first,
+      (
+        rest ++ later.0,
+        (
+          later.1 ∙ ap (λ t. t ++ later.0) (in_turn_more i f ∙ ap (λ t. in_turn i f ++ t) adds.1.1.0) ∙ ap (λ t. t ++ later.0) (sym (append_assoc (in_turn i f) first rest)) ∙ append_assoc (in_turn i f ++ first) rest later.0,
+          adds.1.1.1 ∙ ap (λ t. t ++ first) is ∙ append_assoc old (in_turn i f) first,
+        ),
+      ),
+    )
 
 pub adds_nothing : (numbers old new : List ℤ) → new ≡ old → AddsFirst numbers old new
 adds_nothing numbers old new h = ([], (numbers, (refl, h ∙ nothing old)))

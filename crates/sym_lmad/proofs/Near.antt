@@ -1,5 +1,5 @@
 -- Near numbers.
-use Rattle.std.proofs.Common.{◌≡◌, ◌^◌, ℤ, pos, neg_ℤ, ◌<ℤ◌, Bool, true, false, ◌&&◌, Option, Some, None, int_lt, if◌then◌else◌, FitsSigned, refl, ap, subst, arith}
+use Rattle.std.proofs.Common.{◌≡◌, ◌^◌, ℤ, pos, neg_ℤ, Bool, true, false, ◌&&◌, Option, Some, None, int_lt, if◌then◌else◌, FitsSigned, refl, ap, subst, arith}
 use Rattle.std.proofs.lemmas.Int.{ints}
 use Rattle.hyb_base.specs.Near.{IsNear}
 use Rattle.sym_lmad.specs.Worth.{near_of, near_by}

@@ -1,6 +1,5 @@
 -- The number of a run is the number without bound, wrapped once; where a worth exists it is both.
 use Rattle.std.proofs.Common.{◌≡◌, ℕ, ◌<◌, ◌^◌, ℤ, pos, negsuc, ◌+ℤ◌, ◌*ℤ◌, Bool, true, false, List, length, Option, Some, None, IfSome, FitsSigned, slice_get, unwrap_or, if◌then◌else◌, refl, ap, sym, subst, ◌∙◌, arith}
-use Rattle.std.specs.Int.{int_wrap}
 use Rattle.std.proofs.lemmas.Int.{ints, int_wrap-add_left, int_wrap-add_right, int_wrap-mul_right, int_wrap_fits}
 use Rattle.hyb_base.specs.declared.env.Base.{Base}
 use Rattle.hyb_base.specs.declared.env.Base.TheVariants.{At, Value}
@@ -9,11 +8,11 @@ use Rattle.hyb_base.specs.Wrap.{wrapped}
 use Rattle.sym_lmad.specs.declared.sym.Sym.{Sym}
 use Rattle.sym_lmad.specs.declared.sym.Sym.TheVariants as s
 use Rattle.sym_lmad.specs.Bindings.{FitsCells, region_of, start_of, length_of, address_in, address_by, is_within}
-use Rattle.sym_lmad.specs.Numbers.{Numbers, numbers_at, numbers_step, numbers_of, run_of, whole_of, first_or_zero, cell_or_zero, cell_at, element_or_zero, RunIsWholeWrapped, WorthIsBoth}
+use Rattle.sym_lmad.specs.Numbers.{Numbers, numbers_step, numbers_of, run_of, whole_of, first_or_zero, cell_or_zero, cell_at, element_or_zero, RunIsWholeWrapped, WorthIsBoth}
 use Rattle.sym_lmad.specs.Worth.{near_of, near_by, sum_by, multiple_by, first_by, number_by, cell_by, value_by, element_by, worth_step, worth_of}
 use Rattle.sym_lmad.proofs.Bindings.{address_below}
 use Rattle.sym_lmad.proofs.Near.{near_is, near_fits, near_again, near_had, some_is}
-use Rattle.sym_lmad.proofs.Symbols.{IsKept, induction, fold_lit, fold_addr, fold_cell, fold_elem, fold_index, fold_add, fold_mul}
+use Rattle.sym_lmad.proofs.Symbols.{induction, fold_lit, fold_addr, fold_cell, fold_elem, fold_index, fold_add, fold_mul}
 use mir.Syntax.{w64}
 
 abbrev IsOnce : Numbers → Type 0
@@ -28,7 +27,8 @@ module _ (env : Env) (values : List ℤ) where
     at_elem = λ e x h. subst IsOnce (sym (fold_elem Numbers (numbers_step env values) e x)) refl;
     at_index = λ i. subst IsOnce (sym (fold_index Numbers (numbers_step env values) i)) refl;
     at_add = λ x y h k. subst IsOnce (sym (fold_add Numbers (numbers_step env values) x y)) (sum_wraps (numbers_of env values x) (numbers_of env values y) h k);
-    at_mul = λ c x h. subst IsOnce (sym (fold_mul Numbers (numbers_step env values) c x)) (product_wraps c (numbers_of env values x) h) })
+    at_mul = λ c x h. subst IsOnce (sym (fold_mul Numbers (numbers_step env values) c x)) (product_wraps c (numbers_of env values x) h);
+  })
     where
       sum_wraps : (m n : Numbers) → IsOnce m → IsOnce n → wrapped (m.run +ℤ n.run) ≡ wrapped (m.whole +ℤ n.whole)
       sum_wraps m n h k = (λ i. wrapped (h i +ℤ k i)) ∙ int_wrap-add_left w64 m.whole (wrapped n.whole) ∙ int_wrap-add_right w64 m.whole n.whole
@@ -106,7 +106,8 @@ module _ (env : Env) (values : List ℤ) where
     at_elem = λ e x h. along (s.Elem e x) _ _ (fold_elem (Option ℤ) worth e x) (fold_elem Numbers step e x) (element_worth fits e x h);
     at_index = λ i. along (s.Index i) _ _ (fold_index (Option ℤ) worth i) (fold_index Numbers step i) (read_worth (slice_get env.indices i));
     at_add = λ x y h k. along (s.Add x y) _ _ (fold_add (Option ℤ) worth x y) (fold_add Numbers step x y) (sum_worth (worth_of env values x) (worth_of env values y) (whole_of env values x) (whole_of env values y) h k);
-    at_mul = λ c x h. along (s.Mul c x) _ _ (fold_mul (Option ℤ) worth c x) (fold_mul Numbers step c x) (product_worth c (worth_of env values x) (whole_of env values x) h) })
+    at_mul = λ c x h. along (s.Mul c x) _ _ (fold_mul (Option ℤ) worth c x) (fold_mul Numbers step c x) (product_worth c (worth_of env values x) (whole_of env values x) h);
+  })
     where
       address_worth : (o : Option ℕ) → IsWorth (number_by o) (first_or_zero o)
       address_worth (Some a) = near_worth (pos a)
@@ -156,7 +157,8 @@ module _ (env : Env) (values : List ℤ) where
     at_elem = λ e x h. subst IsNearWorth (sym (fold_elem (Option ℤ) step e x)) (near_element (first_by (slice_get env.bases e)) (region_of env e) (worth_of env values x));
     at_index = λ i. subst IsNearWorth (sym (fold_index (Option ℤ) step i)) (near_read (slice_get env.indices i));
     at_add = λ x y h k. subst IsNearWorth (sym (fold_add (Option ℤ) step x y)) (near_sum (worth_of env values x) (worth_of env values y));
-    at_mul = λ c x h. subst IsNearWorth (sym (fold_mul (Option ℤ) step c x)) (near_product c (worth_of env values x)) })
+    at_mul = λ c x h. subst IsNearWorth (sym (fold_mul (Option ℤ) step c x)) (near_product c (worth_of env values x));
+  })
 
 pub run_is_whole_wrapped : RunIsWholeWrapped
 run_is_whole_wrapped env values x = wraps_once env values x

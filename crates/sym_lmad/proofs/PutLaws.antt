@@ -1,5 +1,5 @@
 -- A symbol in the place of an index is that index with the symbol's numbers, and its worth.
-use Rattle.std.proofs.Common.{◌≡◌, ◌≢◌, ℕ, ◌+◌, ◌*◌, ◌<◌, ◌==◌, ℤ, pos, ◌+ℤ◌, ◌*ℤ◌, Bool, true, false, List, length, Option, Some, None, slice_get, slice_set, unwrap_or, if◌then◌else◌, refl, ap, sym, subst, ◌∙◌, arith, zero, suc, zero-mul, suc-mul}
+use Rattle.std.proofs.Common.{◌≡◌, ℕ, ◌+◌, ◌*◌, ◌<◌, ◌==◌, ℤ, pos, ◌+ℤ◌, ◌*ℤ◌, Bool, true, false, List, length, Option, Some, slice_get, slice_set, unwrap_or, if◌then◌else◌, refl, ap, sym, subst, ◌∙◌, arith, zero, suc, zero-mul, suc-mul}
 use Rattle.std.proofs.lemmas.Int.{int_wrap_fits, SFits-int_wrap}
 use Rattle.std.proofs.lemmas.Bool.{eqb-true, eqb-false}
 use Rattle.hyb_base.specs.declared.env.Env.{Env}
@@ -11,10 +11,10 @@ use Rattle.sym_lmad.specs.Gain.{at_index}
 use Rattle.sym_lmad.specs.Naming.{reads_of, reads_step}
 use Rattle.sym_lmad.specs.Numbers.{Numbers, numbers_at, numbers_step, numbers_of, run_of, whole_of, element_or_zero}
 use Rattle.sym_lmad.specs.Put.{put_of, put_step, namings_of, namings_step, PutKeepsNumbers, PutKeepsWorth, PutReadsEnds}
-use Rattle.sym_lmad.specs.Worth.{near_of, near_by, sum_by, multiple_by, first_by, element_by, worth_step, worth_of}
+use Rattle.sym_lmad.specs.Worth.{near_by, sum_by, multiple_by, first_by, element_by, worth_step, worth_of}
 use Rattle.sym_lmad.proofs.Lists.{get_same, get_other}
 use Rattle.sym_lmad.proofs.NumberLaws.{wraps_once, worth_near}
-use Rattle.sym_lmad.proofs.Symbols.{IsKept, induction, fold_lit, fold_addr, fold_cell, fold_elem, fold_index, fold_add, fold_mul}
+use Rattle.sym_lmad.proofs.Symbols.{induction, fold_lit, fold_addr, fold_cell, fold_elem, fold_index, fold_add, fold_mul}
 use mir.Syntax.{w64}
 
 -- the value of an index after it is set
@@ -77,7 +77,8 @@ module _ (env : Env) (values : List ℤ) (index : ℕ) (place : index < length e
       at_elem = elem_keeps run;
       at_index = λ k. index_keeps run k is_z;
       at_add = λ x y h k. through run (s.Add x y) (s.Add (put x) (put y)) _ _ (fold_add Sym (put_step index end) x y) (fold_add Numbers (numbers_step env values) (put x) (put y)) (fold_add Numbers (numbers_step there values) x y) (λ i. wrapped (h i +ℤ k i));
-      at_mul = λ c x h. through run (s.Mul c x) (s.Mul c (put x)) _ _ (fold_mul Sym (put_step index end) c x) (fold_mul Numbers (numbers_step env values) c (put x)) (fold_mul Numbers (numbers_step there values) c x) (λ i. wrapped (c *ℤ h i)) })
+      at_mul = λ c x h. through run (s.Mul c x) (s.Mul c (put x)) _ _ (fold_mul Sym (put_step index end) c x) (fold_mul Numbers (numbers_step env values) c (put x)) (fold_mul Numbers (numbers_step there values) c x) (λ i. wrapped (c *ℤ h i));
+    })
 
     put_whole : whole_of env values end ≡ z → (x : Sym) → Keeps whole x
     put_whole is_z = induction (Keeps whole) (record {
@@ -87,7 +88,8 @@ module _ (env : Env) (values : List ℤ) (index : ℕ) (place : index < length e
       at_elem = λ e x h. elem_keeps whole e x (put_run (wraps_once env values end ∙ ap wrapped is_z) x);
       at_index = λ k. index_keeps whole k is_z;
       at_add = λ x y h k. through whole (s.Add x y) (s.Add (put x) (put y)) _ _ (fold_add Sym (put_step index end) x y) (fold_add Numbers (numbers_step env values) (put x) (put y)) (fold_add Numbers (numbers_step there values) x y) (λ i. h i +ℤ k i);
-      at_mul = λ c x h. through whole (s.Mul c x) (s.Mul c (put x)) _ _ (fold_mul Sym (put_step index end) c x) (fold_mul Numbers (numbers_step env values) c (put x)) (fold_mul Numbers (numbers_step there values) c x) (λ i. c *ℤ h i) })
+      at_mul = λ c x h. through whole (s.Mul c x) (s.Mul c (put x)) _ _ (fold_mul Sym (put_step index end) c x) (fold_mul Numbers (numbers_step env values) c (put x)) (fold_mul Numbers (numbers_step there values) c x) (λ i. c *ℤ h i);
+    })
 
     abbrev KeepsWorth : Sym → Type 0
     KeepsWorth x = worth_of env values (put x) ≡ worth_of there values x
@@ -103,7 +105,8 @@ module _ (env : Env) (values : List ℤ) (index : ℕ) (place : index < length e
       at_elem = λ e x h. by_worth (s.Elem e x) (s.Elem e (put x)) _ _ (fold_elem Sym (put_step index end) e x) (fold_elem (Option ℤ) (worth_step env values) e (put x)) (fold_elem (Option ℤ) (worth_step there values) e x) (ap (element_by env values (first_by (slice_get env.bases e)) (region_of env e)) h);
       at_index = λ k. by_index k (k == index) refl;
       at_add = λ x y h k. by_worth (s.Add x y) (s.Add (put x) (put y)) _ _ (fold_add Sym (put_step index end) x y) (fold_add (Option ℤ) (worth_step env values) (put x) (put y)) (fold_add (Option ℤ) (worth_step there values) x y) (λ i. sum_by (h i) (k i));
-      at_mul = λ c x h. by_worth (s.Mul c x) (s.Mul c (put x)) _ _ (fold_mul Sym (put_step index end) c x) (fold_mul (Option ℤ) (worth_step env values) c (put x)) (fold_mul (Option ℤ) (worth_step there values) c x) (ap (multiple_by c) h) })
+      at_mul = λ c x h. by_worth (s.Mul c x) (s.Mul c (put x)) _ _ (fold_mul Sym (put_step index end) c x) (fold_mul (Option ℤ) (worth_step env values) c (put x)) (fold_mul (Option ℤ) (worth_step there values) c x) (ap (multiple_by c) h);
+    })
       where
         by_index : (k : ℕ) (b : Bool) → (k == index) ≡ b → KeepsWorth (s.Index k)
         by_index k true e = by_worth (s.Index k) end (Some z) _ (put_index k true e) is_z (fold_index (Option ℤ) (worth_step there values) k) (sym (ap near_by (index_is env.indices index k z true place e) ∙ worth_near env values end z is_z))
@@ -137,7 +140,8 @@ module _ (index : ℕ) (end : Sym) where
     at_elem = λ e x h. by_reads (s.Elem e x) (s.Elem e (put_of index end x)) (reads_of (put_of index end x) + 1) (reads_of x + 1) (namings_of index x) (fold_elem Sym (put_step index end) e x) (fold_elem ℕ reads_step e (put_of index end x)) (fold_elem ℕ reads_step e x) (fold_elem ℕ (namings_step index) e x) (omega (arith, h));
     at_index = λ k. by_index k (k == index) refl;
     at_add = λ x y h k. by_reads (s.Add x y) (s.Add (put_of index end x) (put_of index end y)) _ _ _ (fold_add Sym (put_step index end) x y) (fold_add ℕ reads_step (put_of index end x) (put_of index end y)) (fold_add ℕ reads_step x y) (fold_add ℕ (namings_step index) x y) ((λ i. h i + k i) ∙ shared (reads_of x) (reads_of y) (namings_of index x) (namings_of index y) (reads_of end));
-    at_mul = λ c x h. by_reads (s.Mul c x) (s.Mul c (put_of index end x)) _ _ _ (fold_mul Sym (put_step index end) c x) (fold_mul ℕ reads_step c (put_of index end x)) (fold_mul ℕ reads_step c x) (fold_mul ℕ (namings_step index) c x) h })
+    at_mul = λ c x h. by_reads (s.Mul c x) (s.Mul c (put_of index end x)) _ _ _ (fold_mul Sym (put_step index end) c x) (fold_mul ℕ reads_step c (put_of index end x)) (fold_mul ℕ reads_step c x) (fold_mul ℕ (namings_step index) c x) h;
+  })
     where
       by_index : (k : ℕ) (b : Bool) → (k == index) ≡ b → ReadsSo (s.Index k)
       by_index k true e = by_reads (s.Index k) end (reads_of end) 0 1 (fold_index Sym (put_step index end) k ∙ ap (λ c. if c then end else s.Index k) e) refl (fold_index ℕ reads_step k) (fold_index ℕ (namings_step index) k ∙ ap (λ c. if c then 1 else 0) e) (omega arith)

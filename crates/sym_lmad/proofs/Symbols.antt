@@ -1,5 +1,5 @@
 -- Recursion and induction over symbols.
-use Rattle.std.proofs.Common.{◌≡◌, ℕ, ℤ, refl, sym, ap, subst, ◌∙◌}
+use Rattle.std.proofs.Common.{◌≡◌, ℕ, ℤ, sym, ap, subst, ◌∙◌}
 use Rattle.sym_lmad.specs.declared.sym.Sym.{Sym}
 use Rattle.sym_lmad.specs.declared.sym.Sym.TheVariants.{rolls-Lit, rolls-Addr, rolls-Cell, rolls-Elem, rolls-Index, rolls-Add, rolls-Mul}
 use Rattle.sym_lmad.specs.declared.sym.Sym.TheVariants as s

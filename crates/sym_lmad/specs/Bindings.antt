@@ -1,6 +1,5 @@
 -- What bindings say of entities and regions, and when symbols may be evaluated over them.
-use Rattle.std.specs.Prelude.{◌≡◌, ℕ, ◌+◌, ◌*◌, ◌^◌, ◌<◌, ℤ, pos, negsuc, ◌+ℤ◌, ◌<ℤ◌, ◌≤ℤ◌, Bool, ◌&&◌, List, length, Option, None, Some, slice_get, unwrap_or, int_le, int_lt, IsTrue, if◌then◌else◌}
-use Rattle.hyb_base.specs.declared.env.Base.{Base}
+use Rattle.std.specs.Prelude.{◌≡◌, ℕ, ◌+◌, ◌*◌, ◌^◌, ◌<◌, ℤ, pos, negsuc, ◌+ℤ◌, Bool, ◌&&◌, List, length, Option, None, Some, slice_get, unwrap_or, int_le, int_lt, IsTrue, if◌then◌else◌}
 use Rattle.hyb_base.specs.declared.env.Base.TheVariants.{At}
 use Rattle.hyb_base.specs.declared.env.Env.{Env}
 

@@ -1,5 +1,5 @@
 -- How the ends of a descriptor are found, dimension by dimension.
-use Rattle.std.specs.Prelude.{ℤ, pos, zero, suc, negsuc, ◌+ℤ◌, ◌-ℤ◌, ◌*ℤ◌, List, [], ◌∷◌, Option, None, Some, int_lt, if◌then◌else◌}
+use Rattle.std.specs.Prelude.{ℤ, pos, zero, suc, negsuc, ◌+ℤ◌, ◌*ℤ◌, List, [], ◌∷◌, Option, None, Some, int_lt, if◌then◌else◌}
 use Rattle.sym_lmad.specs.declared.lmad.Dim.{Dim}
 use Rattle.sym_lmad.specs.declared.lmad.Extent.{Extent}
 use Rattle.sym_lmad.specs.declared.sym.Sym.{Sym}

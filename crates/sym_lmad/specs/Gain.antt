@@ -1,5 +1,5 @@
 -- What a symbol gains from each value of an index to the next.
-use Rattle.std.specs.Prelude.{◌≡◌, ℕ, ◌==◌, ◌<◌, ◌⊎◌, ℤ, pos, negsuc, zero, suc, ◌+ℤ◌, ◌*ℤ◌, Bool, true, false, ◌||◌, List, length, Option, None, Some, slice_set, if◌then◌else◌, FitsSigned, IsTrue}
+use Rattle.std.specs.Prelude.{◌≡◌, ℕ, ◌==◌, ◌<◌, ℤ, pos, negsuc, zero, suc, ◌+ℤ◌, ◌*ℤ◌, List, length, Option, None, Some, slice_set, if◌then◌else◌, FitsSigned}
 use Rattle.std.specs.Int.{w128}
 use Rattle.hyb_base.specs.declared.env.Env.{Env}
 use Rattle.sym_lmad.specs.declared.sym.Sym.{Sym}

@@ -1,5 +1,5 @@
 -- The members of a descriptor.
-use Rattle.std.specs.Prelude.{◌≡◌, ◌↔◌, ℕ, zero, suc, ◌+◌, ◌<◌, ℤ, pos, negsuc, ◌+ℤ◌, ◌-ℤ◌, ◌*ℤ◌, ◌<ℤ◌, ◌≤ℤ◌, min, Bool, List, [], ◌∷◌, ◌++◌, ◌⊎◌, Option, None, Some, Contains, if◌then◌else◌, int_lt}
+use Rattle.std.specs.Prelude.{◌≡◌, ◌↔◌, ℕ, zero, suc, ◌+◌, ℤ, pos, negsuc, ◌+ℤ◌, ◌*ℤ◌, ◌<ℤ◌, ◌≤ℤ◌, min, Bool, List, [], ◌∷◌, ◌++◌, ◌⊎◌, Option, None, Some, Contains, if◌then◌else◌, int_lt}
 use Rattle.std.specs.List.{list_all}
 use Rattle.std.specs.Ordering.{int_eq}
 use Rattle.hyb_base.specs.declared.env.Env.{Env}

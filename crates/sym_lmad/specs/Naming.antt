@@ -1,5 +1,5 @@
 -- What symbols name.
-use Rattle.std.specs.Prelude.{ℕ, ◌+◌, ◌==◌, if◌then◌else◌}
+use Rattle.std.specs.Prelude.{ℕ, ◌+◌}
 use Rattle.sym_lmad.specs.declared.sym.Sym.{Sym}
 use Rattle.sym_lmad.specs.declared.sym.Sym.TheOpen.{Sym-F}
 use Rattle.sym_lmad.specs.declared.sym.Sym.TheOpen as layer

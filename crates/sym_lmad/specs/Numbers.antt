@@ -1,5 +1,5 @@
 -- The two numbers that a symbol always has beside its worth.
-use Rattle.std.specs.Prelude.{◌≡◌, ℕ, ◌<◌, ℤ, pos, negsuc, ◌+ℤ◌, ◌*ℤ◌, List, length, Option, Some, None, slice_get, unwrap_or}
+use Rattle.std.specs.Prelude.{◌≡◌, ℕ, ℤ, pos, ◌+ℤ◌, ◌*ℤ◌, List, length, Option, Some, None, slice_get, unwrap_or}
 use Rattle.hyb_base.specs.declared.env.Base.{Base}
 use Rattle.hyb_base.specs.declared.env.Base.TheVariants.{At, Value}
 use Rattle.hyb_base.specs.declared.env.Env.{Env}

@@ -1,5 +1,5 @@
 -- A symbol with another one in the place of an index.
-use Rattle.std.specs.Prelude.{◌≡◌, ℕ, ◌+◌, ◌*◌, ◌<◌, ◌==◌, ℤ, List, length, Option, Some, if◌then◌else◌}
+use Rattle.std.specs.Prelude.{◌≡◌, ℕ, ◌+◌, ◌*◌, ◌<◌, ◌==◌, ℤ, List, length, Some, if◌then◌else◌}
 use Rattle.hyb_base.specs.declared.env.Env.{Env}
 use Rattle.sym_lmad.specs.declared.sym.Sym.{Sym}
 use Rattle.sym_lmad.specs.declared.sym.Sym.TheVariants as s

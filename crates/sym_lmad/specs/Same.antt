@@ -1,5 +1,5 @@
 -- Which symbols are the same: of the same shape, with the same numbers at the same places.
-use Rattle.std.specs.Prelude.{ℕ, Bool, true, false, ◌&&◌, ◌==◌}
+use Rattle.std.specs.Prelude.{Bool, false, ◌&&◌, ◌==◌}
 use Rattle.std.specs.Ordering.{int_eq}
 use Rattle.sym_lmad.specs.declared.sym.Sym.{Sym, out-Sym}
 use Rattle.sym_lmad.specs.declared.sym.Sym.TheOpen.{Sym-F}

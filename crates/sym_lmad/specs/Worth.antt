@@ -1,5 +1,5 @@
 -- What a symbol is worth.
-use Rattle.std.specs.Prelude.{ℕ, ◌^◌, ℤ, pos, negsuc, ◌+ℤ◌, ◌*ℤ◌, neg_ℤ, ◌&&◌, List, Option, None, Some, slice_get, int_lt, if◌then◌else◌}
+use Rattle.std.specs.Prelude.{ℕ, ◌^◌, ℤ, pos, ◌+ℤ◌, ◌*ℤ◌, neg_ℤ, ◌&&◌, List, Option, None, Some, slice_get, int_lt, if◌then◌else◌}
 use Rattle.hyb_base.specs.declared.env.Base.{Base}
 use Rattle.hyb_base.specs.declared.env.Base.TheVariants.{At, Value}
 use Rattle.hyb_base.specs.declared.env.Env.{Env}

@@ -30,7 +30,11 @@ fn turns(extent: Extent) -> u64
     ensures small { result < 2 ^ 63 }
 {
     let count = number(extent.count);
-    if extent.stride == 0 { count.min(1) } else { count }
+    if extent.stride == 0 {
+        count.min(1)
+    } else {
+        count
+    }
 }
 
 /// The number some strides from another one, which is near.
@@ -75,8 +79,8 @@ fn add_near(base: i64, extents: &[Extent], into: &mut Nums) -> Result<bool, NoMe
     requires { IsNear base }
     ensures answer { IfOk result
         (λ near. MatchBool near
-            (AreNear base extents.now × (into.new ≡ into.old ++ members_of extents.now base))
-            ((into.new ≡ into.old) × ((a : ℤ) × (IsReached base extents.now a × (IsNear a → ⊥))))) }
+        (AreNear base extents.now × (into.new ≡ into.old ++ members_of extents.now base))
+        ((into.new ≡ into.old) × ((a : ℤ) × (IsReached base extents.now a × (IsNear a → ⊥))))) }
     ensures err { OnErr result (AddsFirst (members_of extents.now base) into.old into.new) }
 {
     if !all_positive(extents) {
@@ -90,11 +94,16 @@ fn add_near(base: i64, extents: &[Extent], into: &mut Nums) -> Result<bool, NoMe
 }
 
 /// Adds some dimensions with the values of their counts: the answer is whether all have one.
-fn add_extents<C: Cells>(dims: &[Dim], env: &Env, cells: &mut C, into: &mut List<Extent>) -> Result<bool, NoMemory>
+fn add_extents<C: Cells>(
+    dims: &[Dim],
+    env: &Env,
+    cells: &mut C,
+    into: &mut List<Extent>,
+) -> Result<bool, NoMemory>
     requires { IsReadable env.now (C.values cells.old) (C.may_get cells.old) }
     ensures answer { IfOk result
         (λ had. extents_onto into.old (extents_by (worth_of env.now (C.values cells.old)) dims.now)
-            ≡ (if had then Some into.new else None)) }
+        ≡ (if had then Some into.new else None)) }
     ensures same_values { C.values cells.new ≡ C.values cells.old }
     ensures same_test { C.may_get cells.new ≡ C.may_get cells.old }
     ensures reads { C.reads cells.new ≤ C.reads cells.old + reads_of_dims dims.now }
@@ -117,12 +126,18 @@ fn add_extents<C: Cells>(dims: &[Dim], env: &Env, cells: &mut C, into: &mut List
 /// Adds the members of a descriptor, of a dimension with stride 0 each once, one that two dimensions reach maybe more
 /// than once. The answer is false exactly where the base or a count has no value or a member isn't strictly between
 /// -2^62 and 2^62; then nothing is added. A descriptor with a count that is at most 0 has no member.
-pub fn each<C: Cells>(alloc: Global, lmad: &Lmad, env: &Env, cells: &mut C, into: &mut Nums) -> Result<bool, NoMemory>
+pub fn each<C: Cells>(
+    alloc: Global,
+    lmad: &Lmad,
+    env: &Env,
+    cells: &mut C,
+    into: &mut Nums,
+) -> Result<bool, NoMemory>
     requires { IsReadable env.now (C.values cells.old) (C.may_get cells.old) }
     ensures answer { IfOk result
         (λ all. MatchBool all
-            (AddsMembers env.now (C.values cells.old) lmad.now into.old into.new)
-            ((into.new ≡ into.old) × LacksMembers env.now (C.values cells.old) lmad.now)) }
+        (AddsMembers env.now (C.values cells.old) lmad.now into.old into.new)
+        ((into.new ≡ into.old) × LacksMembers env.now (C.values cells.old) lmad.now)) }
     ensures err { OnErr result
         (AddsSome env.now (C.values cells.old) lmad.now into.old into.new) }
     ensures same_values { C.values cells.new ≡ C.values cells.old }

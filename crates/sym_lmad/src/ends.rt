@@ -100,7 +100,12 @@ pub(crate) fn ends_of(ends: (i64, i64), extents: &[Extent]) -> Option<(i64, i64)
 }
 
 /// Both ends with some more dimensions: None where a count has no value besides.
-fn ends_of_dims<C: Cells>(ends: (i64, i64), dims: &[Dim], env: &Env, cells: &mut C) -> Option<(i64, i64)>
+fn ends_of_dims<C: Cells>(
+    ends: (i64, i64),
+    dims: &[Dim],
+    env: &Env,
+    cells: &mut C,
+) -> Option<(i64, i64)>
     requires { IsReadable env.now (C.values cells.old) (C.may_get cells.old) }
     ensures value { result ≡ spec.ends_of_dims (worth_of env.now (C.values cells.old)) dims.now ends }
     ensures same_values { C.values cells.new ≡ C.values cells.old }

@@ -1,4 +1,4 @@
-use Rattle.std.proofs.Common.{◌≡◌, ℕ, ◌+◌, ◌<◌, pos, ◌+ℤ◌, ◌*ℤ◌, true, ◌∷◌, ◌++◌, FitsSigned, rules, refl, ap, sym, subst, ◌∙◌, append_assoc}
+use Rattle.std.proofs.Common.{◌≡◌, ℕ, ◌+◌, ◌<◌, pos, ◌+ℤ◌, ◌*ℤ◌, true, ◌∷◌, ◌++◌, FitsSigned, rules, ap, sym, subst, ◌∙◌, append_assoc}
 use Rattle.std.proofs.lemmas.Int.{to_z-of_z}
 use Rattle.sym_lmad.specs.Members.{members_of, in_turn, turns_of, are_positive, AreNear, AddsFirst}
 use Rattle.sym_lmad.proofs.MemberLaws.{near_place, near_after, positive_rest, adds_first_turn, in_turn_more, on_err}

@@ -1,7 +1,7 @@
-use Rattle.std.proofs.Common.{◌≡◌, ◌++◌, true, false, Some, None, FitsSigned, rules, refl, sym, ◌∙◌}
+use Rattle.std.proofs.Common.{◌≡◌, ◌++◌, true, false, None, FitsSigned, rules, refl, sym, ◌∙◌}
 use Rattle.std.proofs.lemmas.Int.{to_z-of_z}
 use Rattle.sym_lmad.specs.Ends.{ends_by}
-use Rattle.sym_lmad.specs.Members.{AreNear, are_positive, members_of}
+use Rattle.sym_lmad.specs.Members.{are_positive, members_of}
 use Rattle.sym_lmad.proofs.MemberLaws.{without_members, far_member, near_from}
 use Rattle.sym_lmad.proofs.each.add_near.Goals as goal
 use mir.Syntax.{w64}

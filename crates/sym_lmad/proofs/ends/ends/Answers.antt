@@ -1,4 +1,4 @@
-use Rattle.std.proofs.Common.{◌≡◌, Some, FitsSigned, rules, ap, sym, ◌∙◌}
+use Rattle.std.proofs.Common.{◌≡◌, Some, FitsSigned, rules, sym, ◌∙◌}
 use Rattle.std.proofs.lemmas.Int.{to_z-of_z}
 use Rattle.sym_lmad.specs.Ends as spec
 use Rattle.sym_lmad.specs.Worth.{worth_of}
