@@ -17,7 +17,7 @@ pub enum Instr {
     Text(u32),
     /// Pushes the place of an entity.
     Entity(u32),
-    /// Takes so many subscripts, and makes the array below them the place of an element.
+    /// Takes that number of subscripts, and makes the array below them the place of an element.
     Index(u8),
     /// Takes two bounds, and makes the place below them the place of a substring.
     Slice,
@@ -25,9 +25,9 @@ pub enum Instr {
     Unary(Op),
     /// Applies an operator to the two operands on top.
     Binary(Op),
-    /// Applies an intrinsic function, by its number, to so many operands.
+    /// Applies an intrinsic function, by its number, to that number of operands.
     Intrinsic(u8, u8),
-    /// Enters a unit with so many arguments.
+    /// Enters a unit with that number of arguments.
     Enter(u32, u8),
     /// Reads the place on top.
     Load,

@@ -18,7 +18,7 @@ pub struct DataGroup {
 /// [repeat `*`] const (ANSI X3.9-1978, section 9.1).
 #[derive(Drop)]
 pub struct DataValue {
-    /// How often the constant stands; where it is left out, once.
+    /// How often the constant is repeated; where it is left out, once.
     pub repeat: Option<Repeat>,
     /// The constant.
     pub constant: DataConstant,

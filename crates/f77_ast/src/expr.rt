@@ -52,7 +52,7 @@ pub enum Op {
 /// expr: operands, joined by operators and parentheses (ANSI X3.9-1978, section 6).
 ///
 /// primary: digits of value at most 2^63 - 1; `.TRUE.`; `.FALSE.`; a character constant of at least one
-/// character; ref; `(` expr `)`. Above it stand, from the tightest, factor, term, sum, chars, relation, negation,
+/// character; ref; `(` expr `)`. Above it are, from the tightest, factor, term, sum, chars, relation, negation,
 /// conjunction, disjunction and expr.
 #[cycle(expr)]
 #[derive(Drop)]
@@ -84,7 +84,7 @@ pub enum Expr {
 pub struct Ref {
     /// The name.
     pub name: Name,
-    /// Subscripts or actual arguments: none where no list in parentheses stands, `()` being an empty list.
+    /// Subscripts or actual arguments: none where there is no list in parentheses, `()` being an empty list.
     pub args: Option<Items<Expr>>,
     /// The bounds of a substring.
     pub part: Option<Boxed<Part>>,

@@ -21,7 +21,7 @@ pub enum Fault {
     ValueDummyAssigned,
     /// No number is left in the input.
     InputEnd,
-    /// What stands next in the input is no number.
+    /// What is next in the input is no number.
     InputForm,
     /// A printed line past 10,000 bytes.
     LineLimit,

@@ -1,7 +1,7 @@
 //! The trees of FORTRAN 77 programs, and the tables of a program that was read.
 //!
-//! Types alone: what reads, copies, compares and evaluates them stands in the crates above. Above each type of
-//! a tree stands what it spells, with its section of ANSI X3.9-1978.
+//! Types alone: what reads, copies, compares and evaluates them is in the crates above. Above each type of
+//! a tree is what it spells, with its section of ANSI X3.9-1978.
 #![tactic(auto)]
 
 pub mod code;
@@ -15,5 +15,3 @@ pub mod refusal;
 pub mod specification;
 pub mod step;
 pub mod stmt;
-#[cfg(test)]
-mod tests;

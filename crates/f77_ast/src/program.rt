@@ -40,7 +40,7 @@ pub type Listing = List<Listed>;
 /// The dimensions of an array, in order; empty for what is no array.
 pub type Bounds = List<Bound>;
 
-/// Where an entity stands.
+/// Where an entity is kept.
 #[derive(Drop)]
 pub enum Place {
     /// In storage: its first address.
@@ -66,7 +66,7 @@ pub struct Entity {
     pub len: u32,
     /// Its dimensions.
     pub bounds: Bounds,
-    /// Where it stands.
+    /// Where it is.
     pub place: Place,
 }
 
@@ -82,7 +82,7 @@ pub struct Region {
 /// Regions, by their starts. Their numbers are their places, from 0.
 pub type Regions = List<Region>;
 
-/// Where everything stands in storage, and what is there before the first step.
+/// Where everything is in storage, and what is there before the first step.
 #[derive(Drop)]
 pub struct Layout {
     /// The regions.
@@ -114,7 +114,7 @@ pub struct Loop {
     pub closed: bool,
 }
 
-/// The DO loops of a file. In the order of their DO statements the loop of ordinal d stands at place d - 1.
+/// The DO loops of a file. In the order of their DO statements the loop of ordinal d is at place d - 1.
 pub type Loops = List<Loop>;
 
 /// A program unit (ANSI X3.9-1978, section 2.4).
@@ -145,7 +145,7 @@ pub struct Program {
 impl Program {
     /// The DO loop of an ordinal: none exactly where no loop has it.
     ///
-    /// It takes constant time where the loops stand in the order of their ordinals, as those of a file that was
+    /// It takes constant time where the loops are in the order of their ordinals, as those of a file that was
     /// read do; elsewhere it looks through the list.
     pub fn loop_at(&self, ordinal: u32) -> Option<&Loop>
         ensures value { option_copied result ≡ loop_at self.now.loops ordinal }
@@ -184,7 +184,7 @@ fn first_with(loops: &[Loop], ordinal: u32) -> Option<&Loop>
     loops.iter().find(|candidate| candidate.ordinal == ordinal)
 }
 
-/// A law: where the loops are numbered in order from 1, the loop of an ordinal stands at the ordinal's place.
+/// A law: where the loops are numbered in order from 1, the loop of an ordinal is at the ordinal's place.
 pub fn law_of_numbered_loops()
     ensures { NumberedLoopsStandInPlace }
 {}

@@ -9,7 +9,7 @@ use thiserror::Error;
 #[derive(Clone, Copy, Debug, PartialEq, Eq)]
 pub struct Refusal {
     /// The line, counted from 1: a statement's initial line, or the line itself where the line is at fault; 0 for
-    /// a text that stands in no file.
+    /// a text that is in no file.
     pub line: u32,
     /// The code of the rule that is broken.
     pub code: u8,

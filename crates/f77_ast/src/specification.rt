@@ -42,7 +42,7 @@ pub struct Bound {
 pub struct Declarator {
     /// The name.
     pub name: Name,
-    /// The dimensions, empty where no list stands.
+    /// The dimensions, empty where there is no list.
     pub bounds: Items<Bound>,
 }
 

@@ -113,7 +113,7 @@ pub enum Stmt {
     Call {
         /// name of the subroutine.
         name: Name,
-        /// list(expr), the actual arguments, empty where no list stands.
+        /// list(expr), the actual arguments, empty where there is no list.
         args: Items<Expr>,
     },
     /// Print: `PRINT*` [`,` list(item)]; `WRITE(*,*)` [list(item)] (section 12.8).
@@ -126,7 +126,7 @@ pub enum Stmt {
     Subroutine {
         /// name.
         name: Name,
-        /// list(name), the dummy arguments, empty where no list stands.
+        /// list(name), the dummy arguments, empty where there is no list.
         dummies: Items<Name>,
     },
     /// Function: [typ] `FUNCTION` name `(` [list(name)] `)` (section 15.5.1).

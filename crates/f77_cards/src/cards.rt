@@ -17,7 +17,7 @@ pub type Cards = List<Card>;
 /// The cards of a file: one for each statement, in order (ANSI X3.9-1978, sections 3.2 and 3.3).
 ///
 /// Lines end at LF, and a CR directly before LF is dropped; bytes after the last LF are a line where there are any. A
-/// line counts as filled with blanks to column 72, and bytes past column 72 are ignored. Comment lines may stand
+/// line counts as filled with blanks to column 72, and bytes past column 72 are ignored. Comment lines may be
 /// anywhere, also between the lines of a statement. An initial line has a blank or `0` in column 6, any other line is a
 /// continuation line. A text is columns 7 to 72 of a statement's lines, joined: outside character constants blanks are
 /// dropped and lower case becomes upper case, inside bytes stay, and both of two apostrophes side by side. An empty file

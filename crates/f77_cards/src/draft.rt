@@ -16,13 +16,13 @@ const TEXT_COLUMNS: usize = 66;
 /// A statement whose lines are being read: its initial line keeps the rules.
 #[derive(Drop)]
 pub struct Draft {
-    /// Its card so far.
+    /// Its card by now.
     pub card: Card,
-    /// Whether its text so far ends inside a character constant.
+    /// Whether its text by now ends inside a character constant.
     pub inside: bool,
-    /// The number of its continuation lines so far; it stays at 2^32 - 1.
+    /// The number of its continuation lines by now; it stays at 2^32 - 1.
     pub continuations: u32,
-    /// The first refusal of its continuation lines so far.
+    /// The first refusal of its continuation lines by now.
     pub broken: Option<Refusal>,
 }
 

@@ -1,4 +1,4 @@
-//! What the definitions of refusals and cards come to: functions with nothing to do.
+//! Laws of the definitions of refusals and cards: functions with nothing to do.
 ghost use Rattle.f77_cards.specs.Laws.{FirstRefusalIsEarliest, LinesOfCardsRise, LabelsAreInRange};
 
 /// A law: the first of some refusals is one of them, and none of them is earlier.

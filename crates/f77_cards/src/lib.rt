@@ -12,6 +12,4 @@ mod line;
 mod lines;
 mod reader;
 mod rules;
-#[cfg(test)]
-mod tests;
 mod text;

@@ -58,7 +58,7 @@ pub fn has_digit(bytes: &[u8]) -> bool
 }
 
 impl Line {
-    /// Columns 1 to 5, where the label of an initial line stands (ANSI X3.9-1978, section 3.4).
+    /// Columns 1 to 5, where the label of an initial line is (ANSI X3.9-1978, section 3.4).
     pub fn label_field(&self) -> &[u8]
         ensures { result.now ≡ label_field self.now }
     {
@@ -66,7 +66,7 @@ impl Line {
         field
     }
 
-    /// Columns 7 to 72, where the statement stands.
+    /// Columns 7 to 72, where the statement is.
     pub fn text_field(&self) -> &[u8]
         ensures { result.now ≡ text_field self.now }
     {

@@ -16,7 +16,7 @@ fn line_length(bytes: &[u8]) -> usize
     bytes.len()
 }
 
-/// What stands before an LF, without a CR at its end.
+/// What is before an LF, without a CR at its end.
 fn without_return(line: &[u8]) -> &[u8]
     ensures { result.now ≡ line_before line.now }
 {
@@ -26,7 +26,7 @@ fn without_return(line: &[u8]) -> &[u8]
     }
 }
 
-/// The first line, without its LF and a CR directly before it, and what stands after it: none exactly where there
+/// The first line, without its LF and a CR directly before it, and what follows it: none exactly where there
 /// are no bytes.
 pub fn next_line(bytes: &[u8]) -> Option<(&[u8], &[u8])>
     ensures none { IsNone result ↔ (bytes.now ≡ []) }

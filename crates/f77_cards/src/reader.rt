@@ -1,4 +1,4 @@
-//! What was read of a file: its cards so far, and the statement whose lines are being read.
+//! What was read of a file: its cards by now, and the statement whose lines are being read.
 ghost use Rattle.std.specs.Prelude.{◌≡◌, false, OnOk, IfOk, Ok};
 
 use crate::draft::Draft;

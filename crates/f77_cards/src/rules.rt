@@ -12,7 +12,7 @@ use f77_ast::refusal::{FrontError, Refusal};
 /// Code 1: a tab.
 const TAB: u8 = 1;
 
-/// Code 2: a character that may not stand at its place.
+/// Code 2: a character that may not be at its place.
 const BAD_CHARACTER: u8 = 2;
 
 /// Code 3: a label that is none, or one on a continuation line.
@@ -37,7 +37,7 @@ fn has_tab(line: &Line) -> bool
     line.columns.contains(&b'\t')
 }
 
-/// Whether a byte may stand outside character constants (ANSI X3.9-1978, section 3.1).
+/// Whether a byte may be outside character constants (ANSI X3.9-1978, section 3.1).
 fn may_stand_outside(byte: u8) -> bool
     ensures { result ≡ may_stand_outside byte }
 {
@@ -47,14 +47,14 @@ fn may_stand_outside(byte: u8) -> bool
         || b"=+-*/(),.$':".contains(&byte)
 }
 
-/// Whether a byte may stand inside character constants.
+/// Whether a byte may be inside character constants.
 fn may_stand_inside(byte: u8) -> bool
     ensures { result ≡ may_stand_inside byte }
 {
     byte >= 32 && byte != 127
 }
 
-/// Whether a byte may stand at a place.
+/// Whether a byte may be at a place.
 fn may_stand(inside: bool, byte: u8) -> bool
     ensures { result ≡ may_stand inside byte }
 {
@@ -65,7 +65,7 @@ fn may_stand(inside: bool, byte: u8) -> bool
     }
 }
 
-/// Whether a byte may not stand at its place, the first byte being inside a character constant or outside.
+/// Whether a byte may not be at its place, the first byte being inside a character constant or outside.
 fn has_bad_character(starts_inside: bool, bytes: &[u8]) -> bool
     ensures { result ≡ has_bad_character starts_inside bytes.now }
 {

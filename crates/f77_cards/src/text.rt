@@ -5,14 +5,14 @@ ghost use Rattle.f77_cards.specs.Text.{switched, kept, text_from, ends_inside};
 use hyb_base::bytes::Bytes;
 use hyb_base::no_memory::NoMemory;
 
-/// Whether what follows a byte stands inside a character constant: an apostrophe switches between outside and inside.
+/// Whether what follows a byte is inside a character constant: an apostrophe switches between outside and inside.
 pub fn switched(inside: bool, byte: u8) -> bool
     ensures { result ≡ switched inside byte }
 {
     if byte == b'\'' { !inside } else { inside }
 }
 
-/// Whether what follows bytes stands inside a character constant.
+/// Whether what follows bytes is inside a character constant.
 pub fn ends_inside(starts_inside: bool, bytes: &[u8]) -> bool
     ensures { result ≡ ends_inside starts_inside bytes.now }
 {

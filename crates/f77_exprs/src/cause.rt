@@ -7,7 +7,7 @@ use crate::reader::{alphanumerics, digits, is_alphanumeric, number_of};
 use hyb_base::no_memory::NoMemory;
 use std::alloc::Global;
 
-/// Why a text spells no expression. What stands in character constants and dotted words doesn't count.
+/// Why a text spells no expression. What is in character constants and dotted words doesn't count.
 #[derive(Clone, Copy, Debug, PartialEq, Eq)]
 pub enum Cause {
     /// None of the others.
@@ -15,7 +15,7 @@ pub enum Cause {
     /// A number run is worth more than 2^63 - 1. A number run is a greatest run of digits that no letter or digit
     /// precedes.
     LiteralRange,
-    /// A point stands beside a digit, or a number run is followed by `E` or `D`, an optional sign and a digit.
+    /// A point is beside a digit, or a number run is followed by `E` or `D`, an optional sign and a digit.
     RealLiteral,
     /// A greatest run of letters and digits begins with a letter and has more than six of them.
     NameTooLong,
@@ -59,7 +59,7 @@ fn is_point_at_digit(before: u8, text: &[u8]) -> bool
     }
 }
 
-/// The number run that begins a text, behind a byte.
+/// The number run that begins a text, after a byte.
 fn number_run(before: u8, text: &[u8]) -> &[u8]
     ensures value { result.now ≡ spec.number_run before text.now }
     ensures within { length result.now ≤ length text.now }
@@ -92,7 +92,7 @@ fn is_exponent(text: &[u8]) -> bool
     }
 }
 
-/// Whether a number run with an exponent behind it comes next, behind a byte.
+/// Whether a number run with an exponent after it comes next, after a byte.
 fn is_run_with_exponent(before: u8, text: &[u8]) -> bool
     ensures { result ≡ spec.is_run_with_exponent before text.now }
 {
@@ -100,7 +100,7 @@ fn is_run_with_exponent(before: u8, text: &[u8]) -> bool
     count > 0 && is_exponent(text.split_at(count).1)
 }
 
-/// Whether a number run of a value above 2^63 - 1 comes next, behind a byte.
+/// Whether a number run of a value above 2^63 - 1 comes next, after a byte.
 fn is_out_of_range(before: u8, text: &[u8]) -> bool
     ensures { result ≡ spec.makes Cause.LiteralRange before text.now }
 {
@@ -108,7 +108,7 @@ fn is_out_of_range(before: u8, text: &[u8]) -> bool
     !run.is_empty() && number_of(run).is_none()
 }
 
-/// Whether a name of more than six letters and digits comes next, behind a byte.
+/// Whether a name of more than six letters and digits comes next, after a byte.
 pub fn is_long_name(before: u8, text: &[u8]) -> bool
     ensures { result ≡ spec.is_long_name before text.now }
 {
@@ -130,7 +130,7 @@ fn makes(cause: Cause, before: u8, text: &[u8]) -> bool
     }
 }
 
-/// Whether a cause is made at some place of a text, before which nothing stands.
+/// Whether a cause is made at some place of a text, before which there is nothing.
 fn somewhere(cause: Cause, text: &[u8]) -> bool
     ensures { result ≡ spec.somewhere (spec.makes cause) 32 text.now }
 {
@@ -146,7 +146,7 @@ fn somewhere(cause: Cause, text: &[u8]) -> bool
     false
 }
 
-/// The first cause that stands in a text, in which constants and dotted words are blanks.
+/// The first cause that is in a text, in which constants and dotted words are blanks.
 fn first_cause(plain: &[u8]) -> Cause
     ensures { result ≡ spec.first_cause plain.now }
 {
@@ -161,7 +161,7 @@ fn first_cause(plain: &[u8]) -> Cause
     }
 }
 
-/// The cause of a text that spells no expression: the first that stands in what it has outside constants and dotted
+/// The cause of a text that spells no expression: the first that is in what it has outside constants and dotted
 /// words.
 pub fn cause_of(alloc: Global, text: &[u8]) -> Result<Cause, NoMemory>
     ensures { IfOk result (λ cause. cause ≡ spec.cause_of text.now) }

@@ -27,7 +27,7 @@ fn read(alloc: Global, text: &[u8]) -> Result<Option<Expr>, NoMemory>
     }
 }
 
-/// Why a text that spells no expression is refused: at line 0, since it stands in no file.
+/// Why a text that spells no expression is refused: at line 0, since it is in no file.
 fn refusal(alloc: Global, text: &[u8]) -> Result<Refusal, NoMemory>
     ensures { IfOk result (λ refusal. refusal ≡ refusal_of text.now) }
 {
@@ -38,14 +38,14 @@ fn refusal(alloc: Global, text: &[u8]) -> Result<Refusal, NoMemory>
     })
 }
 
-/// expr: the one expression that a text spells, in which no blanks and no lower-case letters stand outside character
+/// expr: the one expression that a text spells, in which no blanks and no lower-case letters are outside character
 /// constants (ANSI X3.9-1978, section 6).
 ///
 /// # Errors
 ///
 /// `Refused` exactly where the text spells none: at line 0, with the first code that fits. 12 is a real literal: a point
 /// that belongs to no dotted word and has a digit beside it, or a number with an exponent. 11 is a number past 2^63 - 1.
-/// 13 is a name of more than six letters and digits. 10 is any other text. What stands inside character constants makes
+/// 13 is a name of more than six letters and digits. 10 is any other text. What is inside character constants makes
 /// none of these. `NoMemory` where memory failed.
 pub fn expr(alloc: Global, text: &[u8]) -> Result<Expr, FrontError>
     ensures { Answers text.now result }

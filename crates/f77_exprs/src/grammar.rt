@@ -15,7 +15,7 @@ use hyb_base::no_memory::NoMemory;
 use sqlite_items::{Boxed, Items};
 use std::alloc::Global;
 
-/// An operand behind its operator, where it has one.
+/// An operand after its operator, where it has one.
 fn prefixed(alloc: Global, operator: Option<Prefix>, operand: Expr) -> Result<Expr, NoMemory>
     ensures { IfOk result (λ e. e ≡ spec.prefixed operator operand) }
 {
@@ -139,7 +139,7 @@ fn with_low(
     Ok(reference_of(name, None, Some(part_of(alloc, low, high)?)))
 }
 
-/// ref: what stands behind its first expr.
+/// ref: what follows its first expr.
 #[cycle(grammar)]
 fn with_first(
     alloc: Global,
@@ -159,7 +159,7 @@ fn with_first(
     with_part(alloc, reader, depth, name, all)
 }
 
-/// ref: what stands behind name `(`.
+/// ref: what follows name `(`.
 #[cycle(grammar)]
 fn opened(alloc: Global, reader: &mut Reader<'_>, depth: usize, name: Name) -> Result<Expr, Unread>
     ensures value { Reads (spec.opened (spec.expr_within depth) name reader.old) result reader.new }
@@ -268,7 +268,7 @@ fn chain(
     Ok(left)
 }
 
-/// What stands at the level above `below` behind its first operand.
+/// What is at the level above `below` after its first operand.
 #[cycle(grammar)]
 fn rest_of(
     alloc: Global,
@@ -291,7 +291,7 @@ fn rest_of(
 /// A level of the grammar, counted from the tightest: 0 primary, 1 factor, 2 term, 3 sum, 4 chars, 5 relation,
 /// 6 negation, 7 conjunction, 8 disjunction, 9 expr.
 ///
-/// The operators before the first operand of a level, and of the levels under it, stand before all else: `.NOT.`, then a
+/// The operators before the first operand of a level, and of the levels under it, are before all else: `.NOT.`, then a
 /// sign. So they are taken first, and then the levels are gone through from the tightest.
 #[cycle(grammar)]
 fn level(alloc: Global, reader: &mut Reader<'_>, depth: usize, top: usize) -> Result<Expr, Unread>

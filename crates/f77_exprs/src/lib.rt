@@ -11,6 +11,4 @@ pub mod operand;
 pub mod operators;
 pub mod outside;
 pub mod reader;
-#[cfg(test)]
-mod tests;
 pub mod unread;

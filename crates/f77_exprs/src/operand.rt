@@ -9,7 +9,7 @@ use f77_ast::expr::Expr;
 use hyb_base::bytes::Bytes;
 use std::alloc::Global;
 
-/// The bytes of a character constant up to the apostrophe that ends it: two apostrophes side by side stand for one.
+/// The bytes of a character constant up to the apostrophe that ends it: two apostrophes side by side are one.
 fn characters(alloc: Global, reader: &mut Reader<'_>) -> Result<Bytes, Unread>
     ensures value { Reads (spec.characters [] reader.old) result reader.new }
     ensures within { length reader.new ≤ length reader.old }

@@ -1,4 +1,4 @@
-//! What stands in a text outside character constants and dotted words.
+//! What is in a text outside character constants and dotted words.
 ghost use Rattle.std.specs.Prelude.{◌≡◌, ◌∷◌, [], false, map, IfOk};
 ghost use Rattle.f77_exprs.specs.Cause as spec;
 
@@ -76,7 +76,7 @@ fn word_length(text: &[u8]) -> usize
     )
 }
 
-/// How many bytes of a dotted word stand from here on, where so many are left of one that began before.
+/// How many bytes of a dotted word are from here on, where `left` are left of one that began before.
 fn dotted_from(left: usize, text: &[u8]) -> usize
     ensures { result ≡ spec.dotted_from left text.now }
 {

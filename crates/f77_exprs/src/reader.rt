@@ -227,7 +227,7 @@ impl<'a> Reader<'a> {
         }
     }
 
-    /// Takes so many bytes, or all.
+    /// Takes `count` bytes, or all.
     fn skip(&mut self, count: usize)
         ensures { self.new ≡ drop count self.old }
     {

@@ -65,7 +65,7 @@ pub fn many<P: Production>(
     Ok(found)
 }
 
-/// A first item, and the others behind it.
+/// A first item, and the others after it.
 pub fn with_first<T: Drop>(alloc: Global, first: T, others: Items<T>) -> Result<Items<T>, NoMemory>
     ensures { IfOk result (λ all. all ≡ first ∷ others) }
 {

@@ -22,7 +22,7 @@ use std::alloc::Global;
 /// 3. Codes 50 to 57: units, labels, DO ranges, IF blocks, jumps, order of statements, and the limits on statements, units
 ///    and names.
 /// 4. Code 56: the limit on operands.
-/// 5. Code 21: a statement isn't built so far, or breaks a rule on names, storage or DO variables.
+/// 5. Code 21: a statement isn't built by now, or breaks a rule on names, storage or DO variables.
 ///
 /// `NoMemory` where no memory was to be had.
 pub fn front(alloc: Global, bytes: &[u8]) -> Result<Program, FrontError>

@@ -6,7 +6,7 @@ pub fn law_of_accepted_files()
     ensures { AcceptedFilesAreSpelled }
 {}
 
-/// A law: in every accepted program each name stands in storage where those before it end, and is a region of its own,
+/// A law: in every accepted program each name is in storage where those before it end, and is a region of its own,
 /// and every storage unit opens as 0.
 pub fn law_of_layouts()
     ensures { AcceptedProgramsAreLaidOut }

@@ -33,7 +33,7 @@ pub fn units_of(alloc: Global, statements: Listing) -> Result<Units, FrontError>
     unless_refused(refusal, units)
 }
 
-/// The program of some units with its loops and its layout, or the first refusal of what isn't built so far.
+/// The program of some units with its loops and its layout, or the first refusal of what isn't built by now.
 pub fn program_of(alloc: Global, units: Units) -> Result<Program, FrontError>
     requires few_units { length units < 2 ^ 32 }
     requires few_statements { statement_count units + 1 < 2 ^ 32 }

@@ -16,7 +16,7 @@ use std::alloc::Global;
 /// What is known of the statements that follow one of a unit. Statements are counted in the file, from 1.
 #[derive(Drop)]
 pub struct Following {
-    /// The number of the statement behind the unit's last one.
+    /// The number of the statement after the unit's last one.
     pub end: u32,
     /// For each label the nearest executable statement that has it.
     pub labels: Labels,
@@ -27,7 +27,7 @@ pub struct Following {
 }
 
 impl Following {
-    /// Behind a unit's last statement. It takes no memory.
+    /// After a unit's last statement. It takes no memory.
     pub fn new(alloc: Global, end: u32) -> Following
         ensures { Knows end [] result }
     {
@@ -39,7 +39,7 @@ impl Following {
         }
     }
 
-    /// The nearest executable statement that has this label, or the number behind the unit's last statement.
+    /// The nearest executable statement that has this label, or the number after the unit's last statement.
     fn last(&self, label: Label) -> u32
         ensures { result ≡ last_by self.now label }
     {
@@ -56,7 +56,7 @@ impl Following {
         }
     }
 
-    /// The range of a DO statement that stands here; none of any other statement.
+    /// The range of a DO statement that is here; none of any other statement.
     fn range_of(&self, stmt: &Stmt) -> Option<Range>
         ensures { result ≡ option_map (range_by self.now) (terminal_label stmt.now) }
     {

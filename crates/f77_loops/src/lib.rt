@@ -11,5 +11,3 @@ mod labels;
 pub mod loops;
 mod ranges;
 mod statements;
-#[cfg(test)]
-mod tests;

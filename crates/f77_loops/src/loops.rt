@@ -16,8 +16,8 @@ use std::alloc::Global;
 /// The DO-loops of a file, in the order of their DO statements (ANSI X3.9-1978, section 11.10).
 ///
 /// Units are counted from 0, DO statements and the statements of the file from 1. The range of a DO statement is from
-/// the next statement to the first executable statement behind it in its unit that has the label that it names; where
-/// there is none, `last` is the number of the statement behind the unit's last one. It is closed where its range holds
+/// the next statement to the first executable statement after it in its unit that has the label that it names; where
+/// there is none, `last` is the number of the statement after the unit's last one. It is closed where its range holds
 /// no READ, PRINT, WRITE, STOP or RETURN; calls and jumps aren't looked at yet. The units may be any, also those of a
 /// file that is refused.
 ///

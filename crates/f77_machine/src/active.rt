@@ -30,7 +30,7 @@ pub struct ActiveLoop {
 }
 
 impl ActiveLoop {
-    /// The loop of a DO statement at a place of a unit, which begins: its range goes on behind the DO statement.
+    /// The loop of a DO statement at a place of a unit, which begins: its range goes on after the DO statement.
     pub fn new(at: usize, found: Loop, begun: Begun) -> ActiveLoop
         requires { at < 2 ^ 32 }
         ensures value { active_of result ≡ active_from at found (as_begun begun) }

@@ -8,7 +8,7 @@ use crate::place::entity;
 use f77_ast::expr::{Expr, Ref};
 use f77_ast::program::{Entity, Layout};
 
-/// The array of a unit that an expression names as a whole: its name stands alone.
+/// The array of a unit that an expression names as a whole: its name is alone.
 pub fn array_named<'l>(layout: &'l Layout, unit: u32, expr: &Expr) -> Option<&'l Entity>
     requires storage { IsStorage layout.now }
     ensures named { option_copied result ≡ array_named layout.now unit expr.now }
@@ -25,7 +25,7 @@ pub fn array_named<'l>(layout: &'l Layout, unit: u32, expr: &Expr) -> Option<&'l
     }
 }
 
-/// The same of a reference: neither subscripts nor a substring follow the name.
+/// The array that a reference names as a whole: neither subscripts nor a substring follow the name.
 fn array_of_ref<'l>(layout: &'l Layout, unit: u32, reference: &Ref) -> Option<&'l Entity>
     requires storage { IsStorage layout.now }
     ensures named { option_copied result ≡ array_of_ref layout.now unit reference.now }

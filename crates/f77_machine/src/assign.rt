@@ -59,7 +59,7 @@ fn plain<'a>(
     }
 }
 
-/// The unit and the value of an accumulation. `first` is what the right side comes to with 0 for the unit's own value,
+/// The unit and the value of an accumulation. `first` is what the right side gives with 0 for the unit's own value,
 /// which tells whether all else was read; then the unit itself is read, and takes the value of the right side.
 fn accumulated<'a>(
     layout: &Layout,

@@ -1,4 +1,4 @@
-//! The DO statement: what its parameters come to (ANSI X3.9-1978, section 11.10.3).
+//! The DO statement: the values of its parameters (ANSI X3.9-1978, section 11.10.3).
 ghost use Rattle.std.specs.Prelude.{◌≡◌, ◌+◌, length};
 ghost use Rattle.f77_meaning.specs.Demand.{and_then, located};
 ghost use Rattle.f77_meaning.specs.Do.{begun_of, begun_with, increment_of};
@@ -31,7 +31,7 @@ pub struct Begun {
     pub count: u64,
 }
 
-/// What a DO statement comes to: its parameters are read from the left, and then its variable's unit is the one to
+/// What a DO statement evaluates to: its parameters are read from the left, and then its variable's unit is the one to
 /// write. An incrementation parameter of 0 is a fault, and so is a count, or a value at the end of the loop, that
 /// isn't from -2^63 to 2^63 - 1.
 pub fn begin<'a>(
@@ -89,7 +89,7 @@ fn increment<'a>(
     }
 }
 
-/// What a DO statement of this variable comes to, where its parameters are known.
+/// What a DO statement of this variable evaluates to, where its parameters are known.
 fn begin_by<'a>(
     layout: &Layout,
     unit: u32,
@@ -113,7 +113,7 @@ fn begin_by<'a>(
     }
 }
 
-/// The same, where the variable's address is known.
+/// What a DO statement evaluates to, where its parameters and its variable's address are known.
 fn begin_at<'a>(variable: u32, parameters: Parameters, rest: &'a [i64]) -> Evaluated<'a, Begun>
     ensures value { begun_demand result ≡ begun_with variable (as_parameters parameters) rest.now }
     ensures asks { Asks 0 0 (length rest.now) result }

@@ -24,7 +24,7 @@ pub enum Chain {
     Product,
 }
 
-/// Whether an operator stands in a chain.
+/// Whether an operator is one of a chain.
 fn stands_in(chain: Chain, op: Op) -> bool
     ensures { result ≡ stands_in chain op }
 {
@@ -85,7 +85,7 @@ struct Operation<'t> {
     right: &'t Expr,
 }
 
-/// The operator that stands outermost in an expression, where it has two operands.
+/// The outermost operator of an expression, where it has two operands.
 fn outermost(expr: &Expr) -> Option<Operation<'_>>
     ensures value { option_map as_operation result ≡ operation_of expr.now }
     ensures operators { IfSome result (λ o. operators_at_left expr.now ≡ suc (operators_at_left o.left.now)) }

@@ -68,7 +68,7 @@ fn count_that_fits(number: i128) -> Option<u64>
     }
 }
 
-/// Whether the value of the variable after so many iterations has 64 bits.
+/// Whether the value of the variable after `count` iterations has 64 bits.
 fn end_fits(first: i64, increment: i64, count: u64) -> bool
     requires { count < 2 ^ 63 }
     ensures { result ≡ has_64_bits (value_after first increment count) }
@@ -76,7 +76,7 @@ fn end_fits(first: i64, increment: i64, count: u64) -> bool
     has_64_bits(i128::from(first) + travelled(increment, count))
 }
 
-/// How far the variable goes in so many iterations.
+/// How far the variable goes in `count` iterations.
 fn travelled(increment: i64, count: u64) -> i128
     requires { count < 2 ^ 63 }
     ensures value { result ≡ pos count *ℤ increment }

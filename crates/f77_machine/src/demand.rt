@@ -51,7 +51,7 @@ pub fn demand<'a>(layout: &Layout, unit: u32, expr: &Expr, answers: &'a [i64]) -
     }
 }
 
-/// The unit that a reference stands for: a variable's, or an array's element's, whose subscript is evaluated first
+/// The address of a reference: a variable's, or an array's element's, whose subscript is evaluated first
 /// and then checked (section 5.4).
 #[cycle(demand)]
 pub fn location<'a>(

@@ -1,8 +1,8 @@
-//! What an evaluation comes to.
+//! What an evaluation gives.
 
 use f77_ast::fault::Fault;
 
-/// What an evaluation comes to on a list of answers, which are the values that a statement has read so far, in order.
+/// What an evaluation gives on a list of answers, which are the values that a statement has read by now, in order.
 #[derive(Clone, Copy, Debug)]
 pub enum Evaluated<'a, T> {
     /// A value, and the answers that are left.

@@ -7,7 +7,7 @@ use hyb_base::bytes::Bytes;
 
 /// The bytes of an input, and how far they have been read.
 ///
-/// Numbers stand in it with blanks, commas, CR and LF between them.
+/// Its numbers have blanks, commas, CR and LF between them.
 #[derive(Drop)]
 pub struct Input {
     bytes: Bytes,

@@ -1,5 +1,5 @@
 //! The machine: processes that run the statements of a program, one step at a time.
-//! Beside them stand the storage, the input of READ and the line of PRINT.
+//! Beside them are the storage, the input of READ and the line of PRINT.
 //!
 //! What a step does is a definition of `f77_meaning`: each contract here cites it.
 #![tactic(auto)]
@@ -21,5 +21,3 @@ mod print;
 pub mod process;
 mod reads;
 pub mod store;
-#[cfg(test)]
-mod tests;

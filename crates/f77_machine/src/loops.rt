@@ -8,7 +8,7 @@ ghost use Rattle.f77_machine.specs.Loops.{begins_at, IsFirstFrom};
 
 use f77_ast::program::{Loop, Program, Unit};
 
-/// The loop of the DO statement at a place of a unit: none exactly where no DO statement stands there.
+/// The loop of the DO statement at a place of a unit: none exactly where no DO statement is there.
 pub fn loop_of_do(program: &Program, unit: u32, at: usize) -> Option<&Loop>
     requires sound { IsSound program.now }
     requires few { statement_number program.now.units unit at + 1 < 2 ^ 32 }
@@ -18,7 +18,7 @@ pub fn loop_of_do(program: &Program, unit: u32, at: usize) -> Option<&Loop>
     loop_with_range_from(program.loops.as_slice(), number + 1)
 }
 
-/// How many statements stand in the units before this one.
+/// How many statements are in the units before this one.
 fn statements_before(units: &[Unit], unit: u32) -> u32
     requires few { statement_count units.now < 2 ^ 32 }
     ensures value { result ≡ statements_before units.now unit }
@@ -45,7 +45,7 @@ fn loop_with_range_from(loops: &[Loop], number: u32) -> Option<&Loop>
     begins_at(loops, first_from(loops, number), number)
 }
 
-/// The place of the first loop whose range begins with this statement of the file, or behind it.
+/// The place of the first loop whose range begins with this statement of the file, or after it.
 fn first_from(loops: &[Loop], number: u32) -> usize
     requires sorted { StartInOrder 2 loops.now }
     ensures { IsFirstFrom loops.now number result }

@@ -1,4 +1,4 @@
-//! Numbers of an input, and what stands between them.
+//! Numbers of an input, and what is between them.
 ghost use Rattle.std.specs.Prelude.{◌≡◌, ◌≤◌, length, SomeIff};
 ghost use Rattle.std.specs.List.{prefix_len, position_or_len};
 ghost use Rattle.f77_machine.specs.Number.{is_separator, IsNumber, number_of};
@@ -36,7 +36,7 @@ pub fn word_length(bytes: &[u8]) -> usize
     bytes.len()
 }
 
-/// The number that a word stands for: none exactly where it is not an optional sign and digits, or does not fit 64 bits.
+/// The number of a word: none exactly where it is not an optional sign and digits, or does not fit 64 bits.
 pub fn number(word: &[u8]) -> Option<i64>
     ensures { SomeIff result (IsNumber word.now) (number_of word.now) }
 {

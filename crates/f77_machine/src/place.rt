@@ -13,7 +13,7 @@ use f77_ast::name::Name;
 use f77_ast::program::{Entity, Layout, Place};
 use f77_ast::specification::Bound;
 
-/// The entity that a name stands for in a unit.
+/// The entity of a name in a unit.
 pub fn entity<'l>(layout: &'l Layout, unit: u32, name: &Name) -> Option<&'l Entity>
     requires storage { IsStorage layout.now }
     ensures found { option_copied result ≡ entity_in layout.now.entities unit name.now }
@@ -34,7 +34,7 @@ pub fn start(entity: &Entity) -> u32
     }
 }
 
-/// The number of elements of an array, each of one storage unit.
+/// The number of storage units of an entity: one of a variable, and one for each element of an array.
 pub fn storage_units(entity: &Entity) -> u64
     ensures { result ≡ storage_units_of entity.now }
 {

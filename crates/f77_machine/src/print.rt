@@ -40,7 +40,7 @@ fn print_item<'a>(
     }
 }
 
-/// Adds so many units from an address on, each of which is read before it goes into the line.
+/// Adds `count` cells from an address on, each of which is read before it goes into the line.
 fn print_units<'a>(
     address: u32,
     count: u64,

@@ -23,7 +23,7 @@ use hyb_base::no_memory::NoMemory;
 use sqlite_items::Items;
 use std::alloc::Global;
 
-/// A process that runs a program: the statement at which it stands, the values that this statement has read, and the
+/// A process that runs a program: the statement at which it is, the values that this statement has read, and the
 /// active DO-loops, the outermost one first. Where it increments, that statement is done and ends the range of the
 /// innermost active loop, whose incrementation processing comes next.
 ///
@@ -36,7 +36,7 @@ pub struct Process {
     at: usize,
     /// The initial line of that statement.
     line: u32,
-    /// The values that the statement has read so far.
+    /// The values that the statement has read by now.
     answers: Vec<i64>,
     /// How many values there is room for.
     room: usize,
@@ -411,7 +411,7 @@ fn statement_at(program: &Program, unit: u32, at: usize) -> Option<&Listed>
     statement_of_unit(program.units.as_slice(), unit, at)
 }
 
-/// The same, by the units.
+/// The statement at a place of a unit, looked for in the units.
 fn statement_of_unit(units: &[Unit], unit: u32, at: usize) -> Option<&Listed>
     ensures listed { option_copied result ≡ option_and_then (λ entered. slice_get entered.listing at) (slice_get units.now unit) }
     ensures after { OnSome result (at + 1 < 2 ^ 64) }

@@ -25,7 +25,7 @@ fn reads_in(expr: &Expr) -> Option<usize>
     }
 }
 
-/// The same of the subscripts of a reference.
+/// How many cells the subscripts of a reference read.
 #[cycle(reads)]
 fn subscript_reads(reference: &Ref) -> Option<usize>
     ensures { IfSome result (λ n. n ≡ subscript_reads reference.now) }
@@ -42,7 +42,7 @@ fn subscript_reads(reference: &Ref) -> Option<usize>
 /// One more than the elements that a line has room for.
 const MOST_ELEMENTS: u64 = 5_001;
 
-/// The same of an item: an array's elements are read one by one, until the line is full.
+/// How many cells an item reads: an array's elements are read one by one, until the line is full.
 fn item_reads(layout: &Layout, unit: u32, item: &Item) -> Option<usize>
     requires storage { IsStorage layout.now }
     ensures { IfSome result (λ n. n ≡ item_reads layout.now unit item.now) }
@@ -56,7 +56,7 @@ fn item_reads(layout: &Layout, unit: u32, item: &Item) -> Option<usize>
     }
 }
 
-/// The same of items.
+/// How many cells items read.
 fn items_reads(layout: &Layout, unit: u32, items: &[Item]) -> Option<usize>
     requires storage { IsStorage layout.now }
     ensures { IfSome result (λ n. n ≡ items_reads layout.now unit items.now) }
@@ -68,7 +68,7 @@ fn items_reads(layout: &Layout, unit: u32, items: &[Item]) -> Option<usize>
     Some(sum)
 }
 
-/// The same of a parameter of a DO statement that may be left out.
+/// How many cells a parameter of a DO statement that may be left out reads.
 fn increment_reads(increment: &Option<Expr>) -> Option<usize>
     ensures { IfSome result (λ n. n ≡ increment_reads increment.now) }
 {
@@ -78,7 +78,7 @@ fn increment_reads(increment: &Option<Expr>) -> Option<usize>
     }
 }
 
-/// The same of the control of a DO statement.
+/// How many cells the control of a DO statement reads.
 fn control_reads(control: &LoopControl) -> Option<usize>
     ensures { IfSome result (λ n. n ≡ control_reads control.now) }
 {
@@ -86,7 +86,7 @@ fn control_reads(control: &LoopControl) -> Option<usize>
     reads_in(&control.first)?.checked_add(after_first)
 }
 
-/// The same of a statement of a unit.
+/// How many cells a statement of a unit reads.
 fn statement_reads(layout: &Layout, unit: u32, stmt: &Stmt) -> Option<usize>
     requires storage { IsStorage layout.now }
     ensures { IfSome result (λ n. n ≡ statement_reads layout.now unit stmt.now) }

@@ -5,7 +5,7 @@ use hyb_base::cells::Cells;
 use hyb_base::no_memory::NoMemory;
 use std::alloc::Global;
 
-/// All storage units of a program, each of 64 bits, with a count of the reads so far.
+/// All storage units of a program, each of 64 bits, with a count of the reads by now.
 ///
 /// Every address may be got.
 #[derive(Drop)]
@@ -31,7 +31,7 @@ impl Store {
         })
     }
 
-    /// The number of reads so far. It stands still at 2^64 - 1.
+    /// The number of reads by now. It stays at 2^64 - 1.
     pub fn reads(&self) -> u64
         ensures { result ≡ reads_of self.now }
     {

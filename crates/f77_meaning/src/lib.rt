@@ -1,4 +1,4 @@
 //! What a program means: the events of a process, and the sequential run.
 //!
-//! The definitions stand in `specs/`. Everything that speaks of runs cites them.
+//! The definitions are in `specs/`. Everything that speaks of runs cites them.
 #![tactic(auto)]

@@ -11,7 +11,7 @@ use f77_ast::refusal::Refusal;
 /// The code of a file with too many operands.
 const SIZE_LIMIT: u8 = 56;
 
-/// Whether the limit is passed at a statement of this need, where the needs of the units before come to so many.
+/// Whether the limit is passed at a statement of this need, where the needs of the units before it add up to `others`.
 fn is_past(others: u32, need: u32) -> bool
     ensures { result ≡ nat_lt 32768 (others + need) }
 {
@@ -29,7 +29,7 @@ fn too_many(listed: &Listed) -> Refusal
 }
 
 /// The need of a unit, or the refusal of its first statement at which the limit is passed, where the needs of the units
-/// before come to so many.
+/// before it add up to `others`.
 fn unit_need(others: u32, listing: &[Listed]) -> Result<u32, Refusal>
     requires { others ≤ 32768 }
     ensures within { IfOk result (λ need. IsWithin others listing.now need) }
@@ -46,7 +46,7 @@ fn unit_need(others: u32, listing: &[Listed]) -> Result<u32, Refusal>
     Ok(greatest)
 }
 
-/// Code 56: the first statement of a file at which the greatest needs of its units so far come to more than 32,768.
+/// Code 56: the first statement of a file at which the greatest needs of its units by now add up to more than 32,768.
 pub fn too_many_operands(units: &[Unit]) -> Option<Refusal>
     ensures value { result ≡ operand_refusal units.now }
 {

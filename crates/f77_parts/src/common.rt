@@ -14,7 +14,7 @@ use hyb_base::no_memory::NoMemory;
 use sqlite_items::Items;
 use std::alloc::Global;
 
-/// What stands behind a member.
+/// What follows a member.
 #[derive(Drop)]
 pub enum CommonStep {
     /// A member of the same group.
@@ -23,7 +23,7 @@ pub enum CommonStep {
     Group(Option<Name>, Declarator),
 }
 
-/// what stands behind `/`: [name] `/`
+/// what follows `/`: [name] `/`
 fn block_name(reader: &mut Reader<'_>) -> Result<Option<Name>, Unread>
     ensures value { Reads (read 0 parts.block_name reader.old) result reader.new }
     ensures within { length reader.new ≤ length reader.old }
@@ -49,7 +49,7 @@ fn first_block(reader: &mut Reader<'_>) -> Result<Option<Name>, Unread>
     block_name(reader)
 }
 
-/// what stands behind `/`: [name] `/` and the first member of another group
+/// what follows `/`: [name] `/` and the first member of another group
 fn new_group(alloc: Global, reader: &mut Reader<'_>, depth: usize) -> Result<CommonStep, Unread>
     ensures value { Reads (read depth parts.new_group reader.old) result reader.new }
     ensures within { length reader.new ≤ length reader.old }
@@ -68,7 +68,7 @@ fn same_group(alloc: Global, reader: &mut Reader<'_>, depth: usize) -> Result<Co
     Ok(CommonStep::Member(member))
 }
 
-/// what stands behind `,`: `/` [name] `/` and the first member of another group, or a member of the same
+/// what follows `,`: `/` [name] `/` and the first member of another group, or a member of the same
 fn behind_comma(alloc: Global, reader: &mut Reader<'_>, depth: usize) -> Result<CommonStep, Unread>
     ensures value { Reads (read depth parts.behind_comma reader.old) result reader.new }
     ensures within { length reader.new ≤ length reader.old }
@@ -79,7 +79,7 @@ fn behind_comma(alloc: Global, reader: &mut Reader<'_>, depth: usize) -> Result<
     same_group(alloc, reader, depth)
 }
 
-/// what stands behind a member: `,` and a member of the same group; or [`,`] `/` [name] `/` and the first member of
+/// what follows a member: `,` and a member of the same group; or [`,`] `/` [name] `/` and the first member of
 /// another
 fn common_step(alloc: Global, reader: &mut Reader<'_>, depth: usize) -> Result<CommonStep, Unread>
     ensures value { Reads (read depth parts.common_step reader.old) result reader.new }
@@ -124,7 +124,7 @@ fn advanced(
     }
 }
 
-/// The last group behind the others.
+/// The last group after the others.
 fn closed(before: Items<CommonGroup>, last: CommonGroup) -> Result<Items<CommonGroup>, NoMemory>
     ensures { IfOk result (λ all. all ≡ parts.groups_of (before, last) []) }
 {

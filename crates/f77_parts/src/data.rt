@@ -28,7 +28,7 @@ fn truth(reader: &mut Reader<'_>) -> Result<DataConstant, Unread>
     Ok(DataConstant::Truth(false))
 }
 
-/// digits behind `-`
+/// digits after `-`
 fn negative(reader: &mut Reader<'_>) -> Result<DataConstant, Unread>
     ensures value { Reads (read 0 parts.negative reader.old) result reader.new }
     ensures within { length reader.new ≤ length reader.old }
@@ -198,7 +198,7 @@ pub fn data_group(alloc: Global, reader: &mut Reader<'_>, depth: usize) -> Resul
     Ok(DataGroup { targets, values })
 }
 
-/// [`,`] and a group behind the first
+/// [`,`] and a group after the first
 fn later_group(alloc: Global, reader: &mut Reader<'_>, depth: usize) -> Result<DataGroup, Unread>
     ensures value { Reads (read depth parts.later_group reader.old) result reader.new }
     ensures within { length reader.new ≤ length reader.old }
@@ -207,7 +207,7 @@ fn later_group(alloc: Global, reader: &mut Reader<'_>, depth: usize) -> Result<D
     data_group(alloc, reader, depth)
 }
 
-/// [`,`] and a group behind the first
+/// [`,`] and a group after the first
 pub struct ALaterGroup;
 
 impl Production for ALaterGroup {

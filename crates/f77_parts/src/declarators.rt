@@ -43,7 +43,7 @@ fn upper_option(
     Ok(Some(found))
 }
 
-/// The bound of what stands in it.
+/// The bound of what is in it.
 fn bound_of(first: Expr, behind: Option<Option<Expr>>) -> Bound
     ensures { result ≡ parts.bound_of (first, behind) }
 {

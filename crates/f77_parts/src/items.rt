@@ -42,7 +42,7 @@ fn is_implied(text: &[u8]) -> bool
     matches!(text, [b'(', ..]) && has_at_depth(b',', 1, text)
 }
 
-/// Whether a comma comes next, and behind it another item.
+/// Whether a comma comes next, and after it another item.
 fn goes_on(text: &[u8]) -> bool
     ensures { result ≡ items.goes_on text.now }
 {

@@ -21,7 +21,7 @@ fn takes_no_else(elses: &Vec<bool>) -> bool
     }
 }
 
-/// Whether a statement lacks its IF, or stands behind the ELSE of its IF, where for each open IF, the innermost last, this
+/// Whether a statement lacks its IF, or is after the ELSE of its IF, where for each open IF, the innermost last, this
 /// tells whether its ELSE has stood.
 fn is_misplaced(elses: &Vec<bool>, stmt: &Stmt) -> bool
     ensures { result ≡ is_misplaced (reverse elses.now.items) stmt.now }
@@ -34,7 +34,7 @@ fn is_misplaced(elses: &Vec<bool>, stmt: &Stmt) -> bool
     }
 }
 
-/// Goes on behind a statement: IF with THEN opens an IF, END IF closes the innermost one.
+/// Goes on after a statement: IF with THEN opens an IF, END IF closes the innermost one.
 fn go_on(elses: &mut Vec<bool>, stmt: &Stmt) -> Result<(), NoMemory>
     ensures { OnOk result (reverse elses.new.items ≡ opened_by stmt.now (reverse elses.old.items)) }
 {
@@ -72,7 +72,7 @@ pub fn misplaced_part(alloc: Global, unit: &[Listed]) -> Result<Option<Refusal>,
     Ok(first)
 }
 
-/// Whether a statement is an IF with THEN without END IF, where so many END IFs behind it have no IF behind it.
+/// Whether a statement is an IF with THEN without END IF, where `ends` END IFs after it have no IF after it.
 fn lacks_end(stmt: &Stmt, ends: usize) -> bool
     ensures { result ≡ lacks_end stmt.now ends }
 {
@@ -83,7 +83,7 @@ fn lacks_end(stmt: &Stmt, ends: usize) -> bool
 }
 
 /// How many END IFs from this statement on have their IF before it, where `ends` is that number for the statements
-/// behind it.
+/// after it.
 fn ends_count(stmt: &Stmt, ends: usize) -> usize
     requires { ends < 2 ^ 64 - 1 }
     ensures { result ≡ ends_count stmt.now ends }

@@ -26,7 +26,7 @@ fn enters(places: &UnitTables, from: usize, label: Label) -> bool
     }
 }
 
-/// The same of one of some labels.
+/// Whether one of some labels is in a range or block that doesn't hold the jump.
 fn enters_by_one(places: &UnitTables, from: usize, labels: &[Label]) -> bool
     ensures { (unit : List Listed) → AreUnitTables unit places.now → result ≡ list_any (λ label. enters unit from (target_in label unit)) labels.now }
 {

@@ -33,7 +33,7 @@ fn misses_one(targets: &Targets, labels: &[Label]) -> bool
     labels.iter().any(|label| lacks(targets, *label))
 }
 
-/// The same of the labels to which GO TO, a computed GO TO or an arithmetic IF goes on.
+/// Whether a label to which GO TO, a computed GO TO or an arithmetic IF goes on is missing.
 fn misses_jump(targets: &Targets, stmt: &Stmt) -> bool
     ensures { result ≡ list_any (lacks targets.now) (gone_to stmt.now) }
 {
@@ -50,7 +50,7 @@ fn misses_jump(targets: &Targets, stmt: &Stmt) -> bool
     }
 }
 
-/// The same of the terminal statement's label of a DO statement.
+/// Whether the label of a DO statement's terminal statement is missing.
 fn misses_terminal(targets: &Targets, stmt: &Stmt) -> bool
     ensures { result ≡ list_any (lacks targets.now) (option_to_list (terminal_label stmt.now)) }
 {
@@ -60,7 +60,7 @@ fn misses_terminal(targets: &Targets, stmt: &Stmt) -> bool
     }
 }
 
-/// The same of all labels that a statement names.
+/// Whether a label that a statement names is missing.
 fn misses_label(targets: &Targets, stmt: &Stmt) -> bool
     ensures { result ≡ list_any (lacks targets.now) (labels_of stmt.now) }
 {

@@ -1,4 +1,4 @@
-//! What the definitions of the shape of a file come to: functions with nothing to do.
+//! Laws of the definitions of the shape of a file: functions with nothing to do.
 ghost use Rattle.f77_shape.specs.Laws.{AcceptedRangesNest, AcceptedFilesAreSmall, AcceptedUnitsEnd, AcceptedFilesHaveOneMain};
 
 /// A law: each DO statement of an accepted file has its range, and the ranges of a unit nest.

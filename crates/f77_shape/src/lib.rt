@@ -20,7 +20,5 @@ pub mod shape;
 mod stretch_index;
 mod stretches;
 mod targets;
-#[cfg(test)]
-mod tests;
 mod unit_tables;
 mod units;

@@ -18,7 +18,7 @@ const MOST_STATEMENTS: usize = 10_000;
 /// The greatest number of units of a file.
 const MOST_UNITS: usize = 200;
 
-/// The greatest number of names of a file, each counted once in each unit in which it stands.
+/// The greatest number of names of a file, each counted once in each unit in which it is.
 const MOST_NAMES: usize = 10_000;
 
 /// Code 56: the 10,001st statement of a file.
@@ -55,7 +55,7 @@ fn passes(before: usize, after: usize) -> bool
     before <= MOST_NAMES && after > MOST_NAMES
 }
 
-/// What the names of a unit come to.
+/// The number of names of a unit, and the statement that passes the limit.
 #[derive(Drop)]
 struct Counted {
     /// The refusal of the statement at which the limit is passed.

@@ -1,4 +1,4 @@
-//! The names that stand in a statement (ANSI X3.9-1978, section 2.2).
+//! The names in a statement (ANSI X3.9-1978, section 2.2).
 ghost use Rattle.std.specs.Prelude.{◌≡◌, ◌∷◌, ◌++◌, [], List, ℕ, OnOk};
 ghost use Rattle.std.specs.List.{flat_map};
 ghost use Rattle.std.specs.Option.{option_to_list};
@@ -19,7 +19,7 @@ use sqlite_items::{Boxed, Items};
 use std::alloc::Global;
 use std::collections::HashSet;
 
-/// The names of a unit so far, each once.
+/// The names of a unit by now, each once.
 #[derive(Drop)]
 pub struct Names {
     names: HashSet<Name>,
@@ -263,7 +263,7 @@ impl Names {
         Ok(())
     }
 
-    /// The same of some.
+    /// Adds the names of several: declarators.
     fn declarators(&mut self, declarators: &[Declarator]) -> Result<(), NoMemory>
         ensures { OnOk result (Adds (flat_map declarator_names declarators.now) self.old self.new) }
     {
@@ -282,7 +282,7 @@ impl Names {
         Ok(())
     }
 
-    /// The same of some.
+    /// Adds the names of several: entities.
     fn entities(&mut self, entities: &[TypedDeclarator]) -> Result<(), NoMemory>
         ensures { OnOk result (Adds (flat_map entity_names entities.now) self.old self.new) }
     {
@@ -311,7 +311,7 @@ impl Names {
         Ok(())
     }
 
-    /// The same of some.
+    /// Adds the names of several: groups.
     fn groups(&mut self, groups: &[CommonGroup]) -> Result<(), NoMemory>
         ensures { OnOk result (Adds (flat_map group_names groups.now) self.old self.new) }
     {
@@ -340,7 +340,7 @@ impl Names {
         Ok(())
     }
 
-    /// The same of some.
+    /// Adds the names of several: constants.
     fn constants(&mut self, constants: &[NamedConstant]) -> Result<(), NoMemory>
         ensures { OnOk result (Adds (flat_map named_names constants.now) self.old self.new) }
     {
@@ -370,7 +370,7 @@ impl Names {
         }
     }
 
-    /// The same of some.
+    /// Adds the names of several: entries.
     fn entries(&mut self, entries: &[SaveEntry]) -> Result<(), NoMemory>
         ensures { OnOk result (Adds (flat_map entry_names entries.now) self.old self.new) }
     {
@@ -380,7 +380,7 @@ impl Names {
         Ok(())
     }
 
-    /// Adds the name in how often a constant of DATA stands.
+    /// Adds the name in the repeat of a constant of DATA.
     fn repeat(&mut self, repeat: &Option<Repeat>) -> Result<(), NoMemory>
         ensures { OnOk result (Adds (repeat_names repeat.now) self.old self.new) }
     {
@@ -412,7 +412,7 @@ impl Names {
         Ok(())
     }
 
-    /// The same of some.
+    /// Adds the names of several: values.
     fn values(&mut self, values: &[DataValue]) -> Result<(), NoMemory>
         ensures { OnOk result (Adds (flat_map value_names values.now) self.old self.new) }
     {
@@ -431,7 +431,7 @@ impl Names {
         Ok(())
     }
 
-    /// The same of some.
+    /// Adds the names of several: inits.
     fn inits(&mut self, groups: &[DataGroup]) -> Result<(), NoMemory>
         ensures { OnOk result (Adds (flat_map data_names groups.now) self.old self.new) }
     {
@@ -441,7 +441,7 @@ impl Names {
         Ok(())
     }
 
-    /// Adds an expression's names behind those of a reference.
+    /// Adds an expression's names after those of a reference.
     fn assign(&mut self, target: &Ref, value: &Expr) -> Result<(), NoMemory>
         ensures { OnOk result (Adds (ref_names target.now ++ expr_names value.now) self.old self.new) }
     {
@@ -450,7 +450,7 @@ impl Names {
         Ok(())
     }
 
-    /// Adds a name, and those in the arguments behind it.
+    /// Adds a name, and those in the arguments after it.
     fn call(&mut self, name: &Name, args: &[Expr]) -> Result<(), NoMemory>
         ensures { OnOk result (Adds (name.now ∷ flat_map expr_names args.now) self.old self.new) }
     {
@@ -459,7 +459,7 @@ impl Names {
         Ok(())
     }
 
-    /// Adds a name, and those of the dummies behind it.
+    /// Adds a name, and those of the dummies after it.
     fn header(&mut self, name: &Name, dummies: &[Name]) -> Result<(), NoMemory>
         ensures { OnOk result (Adds (name.now ∷ dummies.now) self.old self.new) }
     {
@@ -468,7 +468,7 @@ impl Names {
         Ok(())
     }
 
-    /// The same behind the names in a type that may be there.
+    /// Adds the names in a type that may be there, then a name, and those of the dummies after it.
     fn function(
         &mut self,
         typ: &Option<TypeSpec>,

@@ -16,7 +16,7 @@ fn note(farthest: &mut Vec<usize>, stretch: &Stretch)
     }
 }
 
-/// For each of so many places the farthest one to which a stretch runs that opens there; 0 without one.
+/// For each of `count` places the farthest one to which a stretch runs that opens there; 0 without one.
 fn farthest_of(alloc: Global, count: usize, stretches: &[Stretch]) -> Result<Vec<usize>, NoMemory>
     ensures { IfOk result (λ table. AreFarthest stretches.now count table.items) }
 {
@@ -28,7 +28,7 @@ fn farthest_of(alloc: Global, count: usize, stretches: &[Stretch]) -> Result<Vec
 }
 
 /// One more than the last place before this one at which a stretch opens that runs to it; 0 without one. The search goes
-/// from an opener to the next one out. What it passes over ends before this place, and no later search comes to it again: so
+/// from an opener to the next one out. What it passes over ends before this place, and no later search meets it again: so
 /// the searches of all places together take time in proportion to the number of places.
 fn opener_of(farthest: &[usize], openers: &[usize], place: usize) -> usize
     requires within { place < length farthest.now }
@@ -43,7 +43,7 @@ fn opener_of(farthest: &[usize], openers: &[usize], place: usize) -> usize
     end
 }
 
-/// The openers of the places of a table, where stretches run so far.
+/// The openers of the places of a table, where the stretches up to a place are known.
 fn sweep(alloc: Global, farthest: &[usize]) -> Result<Vec<usize>, NoMemory>
     ensures count { IfOk result (λ openers. length openers.items ≡ length farthest.now) }
     ensures found { IfOk result (λ openers. AreFound farthest.now openers.items) }
@@ -56,7 +56,7 @@ fn sweep(alloc: Global, farthest: &[usize]) -> Result<Vec<usize>, NoMemory>
     Ok(openers)
 }
 
-/// For each of so many places one more than the last place at which a stretch opens that holds it; 0 without one.
+/// For each of `count` places one more than the last place at which a stretch opens that holds it; 0 without one.
 pub fn openers_of(
     alloc: Global,
     count: usize,

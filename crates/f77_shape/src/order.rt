@@ -11,7 +11,7 @@ use f77_ast::program::Listed;
 use f77_ast::refusal::Refusal;
 use f77_ast::stmt::Stmt;
 
-/// The part of a unit in which a statement stands: 1 for PROGRAM, SUBROUTINE and FUNCTION, 2 for IMPLICIT and PARAMETER,
+/// The part of a unit in which a statement is: 1 for PROGRAM, SUBROUTINE and FUNCTION, 2 for IMPLICIT and PARAMETER,
 /// 3 for the other declarations, 4 for DATA and executable statements.
 fn part_of(stmt: &Stmt) -> u8
     ensures { result ≡ part_of stmt.now }
@@ -31,9 +31,9 @@ fn part_of(stmt: &Stmt) -> u8
     }
 }
 
-/// The last part of which statements may stand before a statement. PROGRAM, SUBROUTINE and FUNCTION stand only first.
-/// IMPLICIT stands before all declarations but PARAMETER. Declarations stand before DATA and executable statements; DATA
-/// may stand anywhere after the declarations.
+/// The last part of which statements may be before a statement. PROGRAM, SUBROUTINE and FUNCTION are only first.
+/// IMPLICIT is before all declarations but PARAMETER. Declarations are before DATA and executable statements; DATA
+/// may be anywhere after the declarations.
 fn follows_part(stmt: &Stmt) -> u8
     ensures { result ≡ follows_part stmt.now }
 {
@@ -62,14 +62,14 @@ fn has_return(stmt: &Stmt) -> bool
     }
 }
 
-/// Whether a statement breaks the order in a main unit or another, behind statements the last part of which is this.
+/// Whether a statement breaks the order in a main unit or another, after statements the last part of which is this.
 fn is_out_of_order(main: bool, latest: u8, stmt: &Stmt) -> bool
     ensures { result ≡ (nat_lt (follows_part stmt.now) latest || (main && has_return stmt.now)) }
 {
     follows_part(stmt) < latest || (main && has_return(stmt))
 }
 
-/// Code 57: the first statement of a unit that stands behind one before which it should stand, or that is a RETURN in a
+/// Code 57: the first statement of a unit that is after one before which it should be, or that is a RETURN in a
 /// main unit.
 pub fn wrong_order(unit: &[Listed]) -> Option<Refusal>
     ensures { result ≡ first_of (broken_by 57 (is_out_of_order unit.now) 0 unit.now) }

@@ -29,7 +29,7 @@ pub fn first_refused(listing: &[Listed], code: u8) -> Option<Refusal>
     }
 }
 
-/// The refusal of the first statement of a unit behind a main unit or not, where it is a main unit too.
+/// The refusal of the first statement of a unit after a main unit or not, where it is a main unit too.
 fn second_main(behind: bool, main: bool, listing: &[Listed]) -> Option<Refusal>
     ensures { result ≡ first_of (if behind && main then first_refused 54 listing.now else []) }
 {

@@ -47,7 +47,7 @@ fn may_end(unit: &[Listed], place: usize) -> bool
 }
 
 /// Whether the range of a DO statement crosses one of the ranges of its unit: one that holds the DO statement and not its
-/// terminal statement, or one that opens behind the DO statement and holds the place behind its terminal statement.
+/// terminal statement, or one that opens after the DO statement and holds the place after its terminal statement.
 fn crosses_a_range(places: &UnitTables, place: usize, target: usize) -> bool
     requires behind { place < target }
     requires room { target < 2 ^ 64 - 1 }
@@ -63,7 +63,7 @@ fn leaves_a_block(places: &UnitTables, place: usize, target: usize) -> bool
     places.blocks.is_entered(target, place) || places.blocks.is_entered(place, target)
 }
 
-/// Whether the range of a DO statement to a terminal statement behind it breaks the rules.
+/// Whether the range of a DO statement to a terminal statement after it breaks the rules.
 fn breaks_behind(unit: &[Listed], places: &UnitTables, place: usize, target: usize) -> bool
     requires places { AreUnitTables unit.now places.now }
     requires behind { place < target }

@@ -23,11 +23,11 @@ use std::alloc::Global;
 
 /// The units of a file, from its statements (ANSI X3.9-1978, sections 2.4, 3.4, 3.5 and 11). Their code isn't made yet.
 ///
-/// A file is cut into units behind each END. Refused with the first of these, by line and then by code; the line is a
+/// A file is cut into units after each END. Refused with the first of these, by line and then by code; the line is a
 /// statement's initial line.
 /// 50. A label that no executable statement of the unit has.
 /// 51. A label that an earlier statement of the unit has.
-/// 52. A DO whose terminal statement doesn't stand behind it, or may be none; whose range crosses another; or that stands
+/// 52. A DO whose terminal statement isn't after it, or may be none; whose range crosses another; or that is
 ///     in other IF blocks than its terminal statement.
 /// 53. An ELSE IF, ELSE or END IF without its IF, an ELSE IF or ELSE after an ELSE of the same IF, or an IF with THEN
 ///     without its END IF.
@@ -35,8 +35,8 @@ use std::alloc::Global;
 ///     line 1 in a file of one statement.
 /// 55. A label of a GO TO or arithmetic IF in a DO range or IF block that doesn't hold the jump.
 /// 56. The 10,001st statement, the first statement of the 201st unit, and the statement at which the number of names,
-///     each counted once in each unit in which it stands, passes 10,000.
-/// 57. A statement behind one before which it should stand, or a RETURN in a main unit.
+///     each counted once in each unit in which it is, passes 10,000.
+/// 57. A statement after one before which it should be, or a RETURN in a main unit.
 ///
 /// `NoMemory` where no memory was to be had.
 pub fn shape(alloc: Global, statements: Listing) -> Result<Units, FrontError>

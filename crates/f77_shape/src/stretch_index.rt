@@ -20,7 +20,7 @@ pub struct StretchIndex {
     pub limit: usize,
     /// For each place one more than the last place at which a stretch opens that holds it.
     pub openers: Vec<usize>,
-    /// The same of the mirrored stretches.
+    /// The openers of the mirrored stretches.
     pub mirrored: Vec<usize>,
 }
 
@@ -53,7 +53,7 @@ fn all_mirrored(
     Ok(all)
 }
 
-/// The stretches of a unit of so many statements.
+/// The stretches of a unit of `count` statements.
 pub fn index_stretches(
     alloc: Global,
     count: usize,
@@ -73,7 +73,7 @@ pub fn index_stretches(
     })
 }
 
-/// Whether one of some stretches holds a place, and opens at another one or behind it.
+/// Whether one of some stretches holds a place, and opens at another one or after it.
 fn one_opens_behind(stretches: &[Stretch], from: usize, to: usize) -> bool
     ensures { result ≡ list_any (opens_behind from to) stretches.now }
 {
@@ -99,7 +99,7 @@ fn entry(table: &[usize], place: usize) -> Option<usize>
 }
 
 impl StretchIndex {
-    /// Whether one of the stretches holds a place, and opens at another one or behind it. A place outside of the unit has
+    /// Whether one of the stretches holds a place, and opens at another one or after it. A place outside of the unit has
     /// no entry: there the stretches are searched.
     fn opens_behind(&self, from: usize, to: usize) -> bool
         ensures { (stretches : List AStretch) → IsStretchIndex stretches self.now → result ≡ list_any (opens_behind from to) stretches }

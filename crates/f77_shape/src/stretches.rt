@@ -14,7 +14,7 @@ use f77_ast::stmt::Stmt;
 use hyb_base::no_memory::NoMemory;
 use std::alloc::Global;
 
-/// A DO range or an IF block: the statements behind the one that opens it, to the last one. Places are counted in the
+/// A DO range or an IF block: the statements after the one that opens it, to the last one. Places are counted in the
 /// unit from 0.
 #[derive(Clone, Copy)]
 pub struct Stretch {
@@ -41,7 +41,7 @@ fn add(stretches: &mut Vec<Stretch>, stretch: Option<Stretch>) -> Result<(), NoM
     Ok(())
 }
 
-/// The range from a place to a target behind it.
+/// The range from a place to a target after it.
 fn range_to(place: usize, target: Option<usize>) -> Option<Stretch>
     ensures { result ≡ range_to place target }
 {
@@ -119,7 +119,7 @@ fn block_before(stmt: &Stmt, place: usize, parts: &Vec<usize>) -> Option<Stretch
     }
 }
 
-/// Goes on behind a statement, where these are the places of the last parts of the open IFs, the innermost one's last.
+/// Goes on after a statement, where these are the places of the last parts of the open IFs, the innermost one's last.
 fn go_on(parts: &mut Vec<usize>, place: usize, stmt: &Stmt) -> Result<(), NoMemory>
     ensures { OnOk result (reverse parts.new.items ≡ parts_behind stmt.now place (reverse parts.old.items)) }
 {

@@ -90,7 +90,7 @@ pub fn units_of(alloc: Global, statements: Listing) -> Result<Units, NoMemory>
     add_last(alloc, units, listing)
 }
 
-/// The units with one more of the statements behind the last END, where there are any.
+/// The units with one more of the statements after the last END, where there are any.
 fn add_last(alloc: Global, mut units: Units, listing: Listing) -> Result<Units, NoMemory>
     ensures { IfOk result (λ all. all ≡ units ++ map unit_of (without_end listing)) }
 {

@@ -85,7 +85,7 @@ fn is_left_out(text: &[u8]) -> bool
     begins_specifications(text) || begins_transfers(text) || begins_others(text)
 }
 
-/// Whether a name of more than six letters and digits stands directly before the first `=` of a text, or anywhere after
+/// Whether a name of more than six letters and digits is directly before the first `=` of a text, or anywhere after
 /// it. In the text constants and dotted words are blanks.
 fn has_long_name(plain: &[u8]) -> bool
     ensures { result ≡ spec.long_name_from 32 false plain.now }
@@ -104,7 +104,7 @@ fn has_long_name(plain: &[u8]) -> bool
     false
 }
 
-/// The code of a text by its cause as an expression, and by whether such a name stands in it.
+/// The code of a text by its cause as an expression, and by whether such a name is in it.
 fn code_by(cause: Cause, named: bool) -> u8
     ensures { result ≡ spec.code_by cause named }
 {

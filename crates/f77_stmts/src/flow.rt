@@ -1,4 +1,4 @@
-//! Statements of control: what stands behind the first word of each (ANSI X3.9-1978, sections 11 and 15.6).
+//! Statements of control: what follows the first word of each (ANSI X3.9-1978, sections 11 and 15.6).
 ghost use Rattle.std.specs.Prelude.{◌≡◌, ◌≤◌, length, IsOkUnless};
 ghost use Rattle.f77_exprs.specs.Read.{Reads};
 ghost use Rattle.f77_forms.specs.Form.{read};

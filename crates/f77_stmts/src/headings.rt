@@ -1,4 +1,4 @@
-//! Statements that begin a unit, and those that begin with a type: what stands behind the first word of each
+//! Statements that begin a unit, and those that begin with a type: what follows the first word of each
 //! (ANSI X3.9-1978, sections 8.4, 14.1, 15.5.1 and 15.6.1).
 ghost use Rattle.std.specs.Prelude.{◌≡◌, ◌≤◌, length, IsOkUnless};
 ghost use Rattle.f77_exprs.specs.Read.{Reads};
@@ -54,7 +54,7 @@ pub fn function(alloc: Global, reader: &mut Reader<'_>, depth: usize) -> Result<
     })
 }
 
-/// The statement that a type and what stands behind it make.
+/// The statement that a type and what follows it make.
 fn typed_by(typ: TypeSpec, behind: Typed) -> Stmt
     ensures { result ≡ rows.typed_by typ behind }
 {
@@ -68,7 +68,7 @@ fn typed_by(typ: TypeSpec, behind: Typed) -> Stmt
     }
 }
 
-/// name `(` [list(name)] `)` behind a type and `FUNCTION`
+/// name `(` [list(name)] `)` after a type and `FUNCTION`
 fn typed_function(alloc: Global, reader: &mut Reader<'_>, depth: usize) -> Result<Typed, Unread>
     ensures value { Reads (read depth rows.typed_function reader.old) result reader.new }
     ensures within { length reader.new ≤ length reader.old }
@@ -136,7 +136,7 @@ pub fn logical(alloc: Global, reader: &mut Reader<'_>, depth: usize) -> Result<S
     Ok(typed_by(TypeSpec::Logical, behind))
 }
 
-/// len and what stands behind it
+/// len and what follows it
 fn with_length(alloc: Global, reader: &mut Reader<'_>, depth: usize) -> Result<Stmt, Unread>
     ensures value { Reads (read depth rows.with_length reader.old) result reader.new }
     ensures within { length reader.new ≤ length reader.old }
@@ -146,7 +146,7 @@ fn with_length(alloc: Global, reader: &mut Reader<'_>, depth: usize) -> Result<S
     Ok(typed_by(TypeSpec::Character(Some(length)), behind))
 }
 
-/// what stands behind `CHARACTER` alone
+/// what follows `CHARACTER` alone
 fn without_length(alloc: Global, reader: &mut Reader<'_>, depth: usize) -> Result<Stmt, Unread>
     ensures value { Reads (read depth rows.without_length reader.old) result reader.new }
     ensures within { length reader.new ≤ length reader.old }

@@ -14,7 +14,7 @@ use f77_exprs::reader::Reader;
 use f77_exprs::unread::Unread;
 use std::alloc::Global;
 
-/// The statement of a first word, of what stands behind it.
+/// The statement of a first word, of what follows it.
 pub fn behind(
     alloc: Global,
     reader: &mut Reader<'_>,

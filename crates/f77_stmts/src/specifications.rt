@@ -1,4 +1,4 @@
-//! Specification statements and DATA: what stands behind the first word of each (ANSI X3.9-1978, sections 8 and 9.1).
+//! Specification statements and DATA: what follows the first word of each (ANSI X3.9-1978, sections 8 and 9.1).
 ghost use Rattle.std.specs.Prelude.{◌≡◌, ◌≤◌, length};
 ghost use Rattle.f77_exprs.specs.Read.{Reads};
 ghost use Rattle.f77_forms.specs.Form.{read};

@@ -21,7 +21,7 @@ use hyb_base::no_memory::NoMemory;
 use sqlite_items::Boxed;
 use std::alloc::Global;
 
-/// What was read, if no text is left behind it.
+/// What was read, if no text is left after it.
 fn all_of<T: Drop>(found: Result<T, Unread>, reader: &Reader<'_>) -> Result<Option<T>, NoMemory>
     ensures { (o : Outcome T) → Reads o found reader.now → IfOk result (λ v. v ≡ all_of o) }
 {
@@ -86,7 +86,7 @@ fn three_labels(reader: &mut Reader<'_>) -> Result<(Label, (Label, Label)), Unre
     Ok((negative, (zero, positive)))
 }
 
-/// The arithmetic IF of a condition and what stands behind it.
+/// The arithmetic IF of a condition and what follows it.
 fn arithmetic(value: Expr, text: &[u8]) -> Result<Option<Stmt>, NoMemory>
     ensures { IfOk result (λ v. v ≡ spec.arithmetic 0 value text.now) }
 {
@@ -112,7 +112,7 @@ fn condition(alloc: Global, reader: &mut Reader<'_>, depth: usize) -> Result<Exp
     Ok(found)
 }
 
-/// What stands behind a condition, where only an arithmetic IF is sought.
+/// What follows a condition, where only an arithmetic IF is sought.
 fn jumps_behind(value: Expr, text: &[u8]) -> Result<Option<Stmt>, NoMemory>
     ensures { IfOk result (λ v. v ≡ spec.jumps_behind 0 value text.now) }
 {
@@ -144,7 +144,7 @@ fn behind_if(text: &[u8]) -> &[u8]
     text.split_at(text.len().min(3)).1
 }
 
-/// What stands behind `IF(`, if an arithmetic IF does.
+/// What follows `IF(`, if an arithmetic IF does.
 fn if_with_jumps(alloc: Global, text: &[u8], depth: usize) -> Result<Option<Stmt>, NoMemory>
     ensures { IfOk result (λ v. v ≡ spec.if_by (spec.jumps_behind 0) (read depth spec.condition text.now)) }
 {
@@ -171,7 +171,7 @@ fn action(alloc: Global, text: &[u8], depth: usize) -> Result<Option<Stmt>, NoMe
     by_word(alloc, text, depth, false)
 }
 
-/// LogicalIf: `IF(` expr `)` and one of the statements that it may hold (ANSI X3.9-1978, section 11.5), behind its
+/// LogicalIf: `IF(` expr `)` and one of the statements that it may hold (ANSI X3.9-1978, section 11.5), after its
 /// condition
 fn logical(
     alloc: Global,
@@ -190,7 +190,7 @@ fn logical(
     }
 }
 
-/// What stands behind a condition: three labels, `THEN`, or a statement (ANSI X3.9-1978, sections 11.4 to 11.6)
+/// What follows a condition: three labels, `THEN`, or a statement (ANSI X3.9-1978, sections 11.4 to 11.6)
 fn any_behind(
     alloc: Global,
     condition: Expr,
@@ -208,7 +208,7 @@ fn any_behind(
     logical(alloc, condition, text, depth)
 }
 
-/// What stands behind `IF(`.
+/// What follows `IF(`.
 fn if_with_any(alloc: Global, text: &[u8], depth: usize) -> Result<Option<Stmt>, NoMemory>
     ensures { IfOk result (λ v. v ≡ spec.if_by (spec.any_behind depth) (read depth spec.condition text.now)) }
 {

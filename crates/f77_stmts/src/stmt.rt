@@ -45,7 +45,7 @@ fn answer(alloc: Global, line: u32, text: &[u8]) -> Result<Stmt, FrontError>
 /// `Refused` exactly where the text spells none: at the card's line, with the first code that fits. 21 is a text that
 /// begins with a word of a statement that is left out, or left out in some of its forms. 12 is a real literal. 11 is a
 /// number past 2^63 - 1. 13 is a name of more than six letters and digits directly before the first `=`, or anywhere after
-/// it. 20 is any other text. What stands inside character constants makes none of 11 to 13. `NoMemory` where memory failed.
+/// it. 20 is any other text. What is inside character constants makes none of 11 to 13. `NoMemory` where memory failed.
 pub fn stmt(alloc: Global, card: &Card) -> Result<Stmt, FrontError>
     ensures { Answers card.now.line card.now.text result }
 {

@@ -1,4 +1,4 @@
-//! READ and PRINT: what stands behind the first word of each (ANSI X3.9-1978, section 12.8).
+//! READ and PRINT: what follows the first word of each (ANSI X3.9-1978, section 12.8).
 ghost use Rattle.std.specs.Prelude.{◌≡◌, ◌≤◌, length};
 ghost use Rattle.f77_exprs.specs.Read.{Reads};
 ghost use Rattle.f77_forms.specs.Form.{read};

@@ -4,7 +4,7 @@ use f77_ast::name::Name;
 use f77_ast::specification::TypedDeclarator;
 use sqlite_items::Items;
 
-/// What stands behind a type.
+/// What follows a type.
 #[derive(Drop)]
 pub enum Typed {
     /// `FUNCTION` name `(` [list(name)] `)`.

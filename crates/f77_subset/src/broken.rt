@@ -6,7 +6,7 @@ use hyb_base::no_memory::NoMemory;
 /// Why a statement isn't taken.
 #[derive(Clone, Copy, Debug, PartialEq, Eq)]
 pub enum Broken {
-    /// It isn't built so far, or breaks a rule on names, storage or DO variables behind the statements before it.
+    /// It isn't built by now, or breaks a rule on names, storage or DO variables after the statements before it.
     Rule,
     /// No memory was to be had.
     NoMemory,

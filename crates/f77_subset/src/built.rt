@@ -1,4 +1,4 @@
-//! Which statements are built so far.
+//! Which statements are built by now.
 ghost use Rattle.std.specs.Prelude.{◌≡◌, map};
 ghost use Rattle.std.specs.List.{list_all};
 ghost use Rattle.std.specs.Option.{option_map};

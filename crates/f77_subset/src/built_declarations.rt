@@ -1,4 +1,4 @@
-//! Which declarations are built so far (ANSI X3.9-1978, section 8.4.1).
+//! Which declarations are built by now (ANSI X3.9-1978, section 8.4.1).
 ghost use Rattle.std.specs.Prelude.{◌≡◌};
 ghost use Rattle.std.specs.List.{list_all};
 ghost use Rattle.f77_subset.specs.Built as spec;

@@ -1,4 +1,4 @@
-//! Laws of the files that are built so far: functions with nothing to do.
+//! Laws of the files that are built by now: functions with nothing to do.
 ghost use Rattle.f77_subset.specs.Laws.{LayoutsAreStorage, LayoutsAreLaidOut, StatementsAreBuilt, StatementsResolve};
 
 /// A law: where a file is built, each name lies in storage, which has an opening value for each unit.
@@ -6,7 +6,7 @@ pub fn law_of_storage()
     ensures { LayoutsAreStorage }
 {}
 
-/// A law: where a file is built, each name stands in storage where those before it end, and is a region of its own,
+/// A law: where a file is built, each name is in storage where those before it end, and is a region of its own,
 /// and every storage unit opens as 0.
 pub fn law_of_layouts()
     ensures { LayoutsAreLaidOut }

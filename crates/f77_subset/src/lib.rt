@@ -1,7 +1,7 @@
-//! The part of the language that is built so far: which statements, the rules on their names, and their storage.
+//! The part of the language that is built by now: which statements, the rules on their names, and their storage.
 //!
 //! One pass over the statements of a file: the names go into one table, which is proved to be the table of all statements
-//! so far, and the DO variables into another, which is proved to tell in whose range a statement stands.
+//! by now, and the DO variables into another, which is proved to tell in whose range a statement is.
 #![tactic(auto)]
 
 mod broken;
@@ -14,8 +14,4 @@ mod pass;
 mod ranges;
 pub mod subset;
 mod table;
-#[cfg(test)]
-mod test_files;
-#[cfg(test)]
-mod tests;
 mod units;

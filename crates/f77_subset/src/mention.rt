@@ -1,8 +1,8 @@
-//! The names that stand in statements (ANSI X3.9-1978, section 2.2).
+//! The names in statements (ANSI X3.9-1978, section 2.2).
 
 use f77_ast::name::Name;
 
-/// How a name stands in a statement that declares nothing.
+/// How a name is used in a statement that declares nothing.
 #[derive(Clone, Copy, Debug, PartialEq, Eq)]
 pub enum Standing {
     /// Without a subscript.
@@ -18,6 +18,6 @@ pub enum Standing {
 pub struct Mention {
     /// The name.
     pub name: Name,
-    /// How it stands there.
+    /// How it is used there.
     pub standing: Standing,
 }

@@ -1,4 +1,4 @@
-//! The names that stand in statements, in the order of their text (ANSI X3.9-1978, section 2.2).
+//! The names in statements, in the order of their text (ANSI X3.9-1978, section 2.2).
 ghost use Rattle.std.specs.Prelude.{◌≡◌, ◌++◌, map, OnOk, IfOk};
 ghost use Rattle.std.specs.Option.{option_map};
 ghost use Rattle.std.specs.List.{flat_map};
@@ -16,7 +16,7 @@ use std::alloc::Global;
 /// Names, in the order of the text.
 pub type Mentions = List<Mention>;
 
-/// How the name of a reference stands.
+/// How the name of a reference is used.
 fn standing_of(args: &Option<Items<Expr>>) -> Standing
     ensures { result ≡ spec.standing_by args.now }
 {
@@ -157,7 +157,7 @@ fn mentions_in_control(control: &LoopControl, into: &mut Mentions) -> Result<(),
     mentions_in_increment(&control.increment, into)
 }
 
-/// The names that stand in a statement that declares nothing, in the order of its text.
+/// The names in a statement that declares nothing, in the order of its text.
 pub fn mentioned_in(alloc: Global, stmt: &Stmt) -> Result<Mentions, NoMemory>
     ensures { IfOk result (λ names. names ≡ spec.mentioned_in stmt.now) }
 {

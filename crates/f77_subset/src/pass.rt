@@ -15,12 +15,12 @@ use f77_ast::stmt::Stmt;
 use hyb_base::no_memory::NoMemory;
 use std::alloc::Global;
 
-/// The DO statements so far: how far their variables' ranges reach, and how many they are.
+/// The DO statements by now: how far their variables' ranges reach, and how many they are.
 #[derive(Drop)]
 pub struct LoopsSoFar {
     /// How far the ranges of their loops reach.
     pub ranges: Ranges,
-    /// The number of DO statements so far; the next one's loop stands at this place.
+    /// The number of DO statements by now; the next one's loop is at this place.
     pub loops: usize,
 }
 
@@ -50,14 +50,14 @@ impl LoopsSoFar {
     }
 }
 
-/// What one pass over the statements has found so far.
+/// What one pass over the statements has found by now.
 #[derive(Drop)]
 pub struct Pass {
     /// Their names.
     pub table: Table,
     /// Their DO variables.
     pub running: LoopsSoFar,
-    /// The number of statements taken so far.
+    /// The number of statements taken by now.
     pub statements: u32,
 }
 
@@ -76,7 +76,7 @@ impl Pass {
         }
     }
 
-    /// Takes the next statement: refused where it isn't built, or breaks a rule behind those before it.
+    /// Takes the next statement: refused where it isn't built, or breaks a rule after those before it.
     fn take(&mut self, alloc: Global, loops: &[Loop], stmt: &Stmt) -> Result<(), Broken>
         requires { self.old.statements + 1 < 2 ^ 32 }
         ensures taken { OnOk result (spec.taken loops.now self.old stmt.now ≡ Some self.new) }
@@ -109,7 +109,7 @@ impl Pass {
         }
     }
 
-    /// Takes the statements of a unit: refused at the first that isn't built, or breaks a rule behind those before it.
+    /// Takes the statements of a unit: refused at the first that isn't built, or breaks a rule after those before it.
     fn take_all(
         &mut self,
         alloc: Global,

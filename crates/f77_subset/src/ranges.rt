@@ -1,4 +1,4 @@
-//! The DO variables so far, and how far the ranges of their loops reach (ANSI X3.9-1978, section 11.10).
+//! The DO variables by now, and how far the ranges of their loops reach (ANSI X3.9-1978, section 11.10).
 ghost use Rattle.std.specs.Prelude.{◌≡◌, [], OnOk, nat_eq};
 ghost use Rattle.std.specs.Cmp.Lexicographic.{pointwise};
 ghost use Rattle.std.specs.Map.{lookup};
@@ -11,7 +11,7 @@ use indexmap::IndexMap;
 use std::alloc::Global;
 use std::marker::Model;
 
-/// The DO variables so far, each with the greatest end of the ranges of its loops.
+/// The DO variables by now, each with the greatest end of the ranges of its loops.
 ///
 /// How far a name reaches is found in constant time.
 #[derive(Drop)]
@@ -47,7 +47,7 @@ impl Ranges {
         }
     }
 
-    /// Whether this statement of the file assigns a variable of a DO statement in whose range it stands.
+    /// Whether this statement of the file assigns a variable of a DO statement in whose range it is.
     pub fn breaks(&self, number: u32, stmt: &Stmt) -> bool
         ensures { result ≡ spec.breaks self.now number stmt.now }
     {
@@ -58,7 +58,7 @@ impl Ranges {
         }
     }
 
-    /// The greater of an end and that of a name's loops so far.
+    /// The greater of an end and that of a name's loops by now.
     fn greatest(&self, name: &Name, last: u32) -> u32
         ensures { result ≡ spec.greatest (lookup (pointwise nat_eq name.now) self.now) last }
     {

@@ -1,4 +1,4 @@
-//! Whether a file is built so far.
+//! Whether a file is built by now.
 ghost use Rattle.std.specs.Prelude.{◌≡◌, ◌+◌, ◌<◌, ◌^◌, Ok, Err, IfOk, IsErrOf};
 ghost use Rattle.f77_ast.specs.declared.refusal.Refusal.{Refusal};
 ghost use Rattle.f77_meaning.specs.Loops.{statement_count};
@@ -9,11 +9,11 @@ use f77_ast::program::{Layout, Loops, Units};
 use f77_ast::refusal::FrontError;
 use std::alloc::Global;
 
-/// Where the names of a file stand in storage, from its units and its loops.
+/// Where the names of a file are in storage, from its units and its loops.
 ///
 /// # Errors
 ///
-/// `Refused` exactly where a statement isn't built so far or breaks a rule on names, storage or DO variables: at the line
+/// `Refused` exactly where a statement isn't built by now or breaks a rule on names, storage or DO variables: at the line
 /// of the first such statement, code 21. `NoMemory` where no memory was to be had.
 pub fn subset(alloc: Global, units: &Units, loops: &Loops) -> Result<Layout, FrontError>
     requires counted { statement_count units.now + 1 < 2 ^ 32 }

@@ -1,4 +1,4 @@
-//! The table of names, and where they stand in storage.
+//! The table of names, and where they are in storage.
 ghost use Rattle.std.specs.Prelude.{◌≡◌, ◌≤◌, ◌+◌, [], OnOk, IfOk, None, true};
 ghost use Rattle.std.specs.List.{list_all};
 ghost use Rattle.f77_ast.specs.Entity.{entity_in};
@@ -24,7 +24,7 @@ use hyb_base::no_memory::NoMemory;
 use hyb_base::nums::Nums;
 use std::alloc::Global;
 
-/// The names so far, in the order of their first appearance, and their places in storage.
+/// The names by now, in the order of their first appearance, and their places in storage.
 #[derive(Drop)]
 pub struct Table {
     /// The names of variables and arrays, with their bounds and addresses.
@@ -48,7 +48,7 @@ fn begins_integer(name: &[u8]) -> bool
     }
 }
 
-/// Whether an array, or a variable, may stand so.
+/// Whether an array, or a variable, may be used so.
 fn may_stand(array: bool, standing: Standing) -> bool
     ensures { result ≡ rule.may_stand array standing }
 {
@@ -79,7 +79,7 @@ impl Table {
         self.programs.as_slice().contains(name)
     }
 
-    /// Places a new name of so many units behind the others.
+    /// Places a new name of `units` cells after the others.
     fn push(
         &mut self,
         alloc: Global,
@@ -110,7 +110,7 @@ impl Table {
         Ok(())
     }
 
-    /// Gives a new name its units behind the others, within the limit.
+    /// Gives a new name its units after the others, within the limit.
     fn place(&mut self, alloc: Global, name: &Name, bounds: &[Bound]) -> Result<(), Broken>
         requires absent { entity_in self.old.entities 0 name.now ≡ None }
         requires built { bounds_are_built bounds.now ≡ true }
@@ -150,7 +150,7 @@ impl Table {
         Ok(())
     }
 
-    /// Whether a name stands as it may: one that is there already, or a new one that needs no declaration.
+    /// Whether a name is used as it may be: one that is there already, or a new one that needs no declaration.
     fn stands(&self, mention: &Mention) -> bool
         ensures { result ≡ spec.stands_as (entity_in self.now.entities 0 mention.now.name) mention.now }
     {
@@ -160,21 +160,21 @@ impl Table {
         }
     }
 
-    /// Whether a name may stand in another statement.
+    /// Whether a name may be used so in another statement.
     fn allows(&self, mention: &Mention) -> bool
         ensures { result ≡ spec.allows self.now mention.now }
     {
         !self.is_program(&mention.name) && self.stands(mention)
     }
 
-    /// Whether all names stand in another statement as they may.
+    /// Whether all names of another statement are used as they may be.
     fn allows_all(&self, mentions: &[Mention]) -> bool
         ensures { result ≡ list_all (spec.allows self.now) mentions.now }
     {
         mentions.iter().all(|mention| self.allows(mention))
     }
 
-    /// Takes a name that stands in another statement, and may be there already.
+    /// Takes a name of another statement, which may be there already.
     fn appear(&mut self, alloc: Global, mention: &Mention) -> Result<(), Broken>
         ensures { spec.Updates (spec.appeared self.old mention.now) result self.new }
     {
@@ -184,7 +184,7 @@ impl Table {
         self.place(alloc, &mention.name, &[])
     }
 
-    /// Takes names that stand in another statement.
+    /// Takes names of another statement.
     fn appear_all(&mut self, alloc: Global, mentions: &[Mention]) -> Result<(), Broken>
         ensures { spec.Updates (spec.all_appeared self.old mentions.now) result self.new }
     {
@@ -205,7 +205,7 @@ impl Table {
         self.appear_all(alloc, mentions.as_slice())
     }
 
-    /// Takes the next statement: refused where it breaks a rule on names or storage behind those before it.
+    /// Takes the next statement: refused where it breaks a rule on names or storage after those before it.
     pub fn admit(&mut self, alloc: Global, stmt: &Stmt) -> Result<(), Broken>
         requires { is_built stmt.now ≡ true }
         ensures { spec.Updates (spec.admitted self.old stmt.now) result self.new }

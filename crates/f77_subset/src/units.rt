@@ -23,7 +23,7 @@ fn last_of(bound: &Option<Expr>) -> Option<i64>
 /// The most storage units of a file.
 pub const MOST_STORAGE_UNITS: u32 = 1_000_000;
 
-/// So many elements, where there are from one to as many as there may be storage units.
+/// The number of elements, where there are from one to as many as there may be storage units.
 fn counted(last: Option<i64>) -> Option<u32>
     ensures { result ≡ spec.within (spec.elements last) }
 {

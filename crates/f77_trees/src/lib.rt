@@ -2,5 +2,3 @@
 #![tactic(auto)]
 
 pub mod same;
-#[cfg(test)]
-mod tests;

@@ -73,7 +73,7 @@ pub fn same_expr(a: &Expr, b: &Expr) -> bool
     }
 }
 
-/// Whether two references are the same: their names, what stands in their parentheses, and their parts.
+/// Whether two references are the same: their names, what they have in parentheses, and their parts.
 #[cycle(same)]
 pub fn same_ref(a: &Ref, b: &Ref) -> bool
     ensures value { result ≡ spec.same_ref a.now b.now }
@@ -82,7 +82,7 @@ pub fn same_ref(a: &Ref, b: &Ref) -> bool
     a.name == b.name && same_args(&a.args, &b.args) && same_part(&a.part, &b.part)
 }
 
-/// Whether the same stands in the parentheses of two references.
+/// Whether what two references have in parentheses is the same.
 #[cycle(same)]
 #[tactic(auto, using(crate::proofs::SameLemmas::unequal_lengths))]
 fn same_args(a: &Option<Items<Expr>>, b: &Option<Items<Expr>>) -> bool

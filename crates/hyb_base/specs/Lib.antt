@@ -1,4 +1,5 @@
 pub mod Count
 pub mod Decimal
 pub mod Near
+pub mod Reduction
 pub mod Wrap

@@ -29,7 +29,7 @@ impl Bytes {
         }
     }
 
-    /// The empty list, with room for so many bytes.
+    /// The empty list, with room for `room` bytes.
     pub fn with_capacity(alloc: Global, room: usize) -> Result<Bytes, NoMemory>
         ensures { IfOk result (λ b. b ≡ []) }
     {

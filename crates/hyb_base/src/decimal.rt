@@ -58,7 +58,7 @@ pub fn print_i64(v: i64, into: &mut Bytes) -> Result<(), NoMemory>
     into.push_slice(Decimal::new(v).as_slice())
 }
 
-/// The number that a text of digits stands for, where there are 1 to 20 digits, zeros in front
+/// The number of a text of digits, where there are 1 to 20 digits, zeros in front
 /// among them. None exactly where the text is anything else, or the number is 2^64 or more.
 pub fn read_u64(text: &[u8]) -> Option<u64>
     ensures { SomeIff result (IsDigits text.now × (length text.now ≤ 20) × (value_of text.now < 2 ^ 64)) (value_of text.now) }

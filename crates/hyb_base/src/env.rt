@@ -1,4 +1,4 @@
-//! What the names of a program stand for at one moment of a run.
+//! What the names of a program mean at one moment of a run.
 
 use crate::list::List;
 use crate::nums::Nums;

@@ -1,6 +1,6 @@
 //! Lists, wrapped 64-bit arithmetic, decimal texts, operators, bindings and the storage that programs run over.
 //!
-//! Every crate of the project stands on this one.
+//! Every crate of the project uses this one.
 #![tactic(auto)]
 
 pub mod bytes;
@@ -13,7 +13,6 @@ pub mod near;
 pub mod no_memory;
 pub mod nums;
 pub mod ops;
-#[cfg(test)]
-mod tests;
+pub mod reduction;
 pub mod words;
 pub mod wrap;

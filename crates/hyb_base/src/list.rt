@@ -30,7 +30,7 @@ impl<T: Drop> List<T> {
         }
     }
 
-    /// The empty list, with room for so many items.
+    /// The empty list, with room for `room` items.
     pub fn with_capacity(alloc: Global, room: usize) -> Result<List<T>, NoMemory>
         ensures { IfOk result (λ l. l ≡ []) }
     {

@@ -2,7 +2,7 @@
 ghost use Rattle.std.specs.Prelude.{SomeIff};
 ghost use Rattle.hyb_base.specs.Near.{IsNear};
 
-/// The same number, strictly between -2^62 and 2^62. None exactly where it isn't between these.
+/// The number, where it is strictly between -2^62 and 2^62. None exactly where it isn't between these.
 pub fn near(v: i128) -> Option<i64>
     ensures { SomeIff result (IsNear v) v }
 {

@@ -1,4 +1,4 @@
-//! The want of memory.
+//! Out of memory.
 
 use std::alloc::{AllocError, AllocFailed};
 

@@ -29,7 +29,7 @@ impl Nums {
         }
     }
 
-    /// The empty list, with room for so many numbers.
+    /// The empty list, with room for `room` numbers.
     pub fn with_capacity(alloc: Global, room: usize) -> Result<Nums, NoMemory>
         ensures { IfOk result (λ n. n ≡ []) }
     {

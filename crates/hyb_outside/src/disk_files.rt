@@ -124,7 +124,7 @@ impl<R: rt::Files> DiskFiles<R> {
     ghost use Rattle.std.specs.Prelude.{◌≡◌};
     ghost use Rattle.hyb_outside.specs.DiskFiles.{disk_files_seen};
 
-    /// The files of a runtime, with no faults and no ends so far.
+    /// The files of a runtime, with no faults and no ends by now.
     pub fn new(rt: R) -> DiskFiles<R>
         ensures faults { (disk_files_seen result).faults ≡ 0 }
         ensures ends { (disk_files_seen result).ends ≡ 0 }

@@ -2,7 +2,7 @@
 ghost use Rattle.std.specs.Prelude.{◌≡◌};
 ghost use Rattle.hyb_outside.specs.FilesSeen.{ends_after};
 
-/// The number of ends after so many bytes were given to a buffer of so many. It stands still at its type's end.
+/// The number of ends after `given` bytes were given to a buffer of `room`. It stays at its type's end.
 pub fn count_end(given: usize, room: usize, ends: u64) -> u64
     ensures { result ≡ ends_after given room ends }
 {

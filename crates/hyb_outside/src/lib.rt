@@ -1,6 +1,6 @@
 //! The outside of a run: files that are read, sinks that take bytes, and the pieces that are offered to them.
 //!
-//! Everything above this crate is generic over `Files` and `Sink`. Here stand the two traits, the
+//! Everything above this crate is generic over `Files` and `Sink`. Here are the two traits, the
 //! implementations in memory that tests use, those that never fail, and the edge over real files and streams.
 #![tactic(auto)]
 
@@ -17,5 +17,3 @@ pub mod pieces;
 pub mod sink;
 pub mod std_sink;
 mod table;
-#[cfg(test)]
-mod tests;

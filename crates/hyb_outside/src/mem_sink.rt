@@ -24,7 +24,7 @@ impl MemSink {
     ghost use Rattle.std.specs.Prelude.{◌≡◌, [], ◌∷◌, ◌++◌, Some, IfOk, OnOk, OnErr};
     ghost use Rattle.hyb_outside.specs.MemSink.{mem_sink_held, mem_sink_seen};
 
-    /// An empty sink with room for so many bytes, none of whose calls is to fail.
+    /// An empty sink with room for `room` bytes, none of whose calls is to fail.
     pub fn new(alloc: Global, room: usize) -> Result<MemSink, NoMemory>
         ensures { IfOk result (λ s. mem_sink_held s ≡ record { taken = []; room = room; fails = []; calls = 0; faults = 0 }) }
     {

@@ -18,7 +18,7 @@ impl<W: Write> StdSink<W> {
     ghost use Rattle.std.specs.Prelude.{◌≡◌};
     ghost use Rattle.hyb_outside.specs.StdSink.{std_sink_seen, writer_of};
 
-    /// A sink over a writer, with no faults so far.
+    /// A sink over a writer, with no faults by now.
     pub fn new(writer: W) -> StdSink<W>
         ensures fresh { (std_sink_seen result).faults ≡ 0 }
         ensures over { writer_of result ≡ writer }

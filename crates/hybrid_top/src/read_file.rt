@@ -60,7 +60,7 @@ impl From<Failed> for ReadError {
     }
 }
 
-/// Adds the bytes that stand next in a file, as many as the buffer takes at most, and answers how many: 0 at its end.
+/// Adds the next bytes of a file, as many as the buffer takes at most, and answers how many: 0 at its end.
 fn read_on<F: Files>(
     name: &[u8],
     files: &mut F,

@@ -13,7 +13,7 @@ use f77_ast::step::Stepped;
 use hyb_outside::pieces::{SinkName, put};
 use hyb_outside::sink::Sink;
 
-/// Runs at most so many steps. Each printed line goes to `out` with its LF, directly after its step.
+/// Runs at most `steps` steps. Each printed line goes to `out` with its LF, directly after its step.
 ///
 /// `Done`, `Faulted` or `StepsSpent` by the end of the run, or `WriteFault` where a line couldn't be written.
 pub fn run<O: Sink, N: Sink, Q: Sink>(

@@ -47,8 +47,8 @@ fn perform<F: Files, O: Sink, N: Sink, Q: Sink>(
     }
 }
 
-/// Writes the status line as the last act. A fault of that write makes the status `WriteFault`.
-fn conclude<O: Sink, N: Sink, Q: Sink>(
+/// Writes the status line as the last act, and tells the status: `WriteFault` where that write failed.
+pub fn conclude<O: Sink, N: Sink, Q: Sink>(
     status: Status,
     out: &mut O,
     notes: &mut N,

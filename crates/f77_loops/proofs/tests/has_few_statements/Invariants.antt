@@ -1,9 +1,0 @@
-use Rattle.std.proofs.Common.{◌≡◌, ◌+◌, ◌≤◌, drop}
-use Rattle.f77_meaning.specs.Loops.{statement_count}
-use Rattle.f77_loops.proofs.tests.has_few_statements.Given as goal
-
-abbrev pub invariant-loop-unit : goal.invariant-loop-unit
-invariant-loop-unit l = record {
-  count : l.count + statement_count (drop l.unit-index l.all) ≡ statement_count l.all;
-  few : l.count ≤ 20000;
-}

@@ -1,0 +1,127 @@
+//! The tables of a file, a line ended by LF for each of their members: cards, units, loops, entities.
+
+use crate::exprs::show_expr;
+use crate::lists::{show_count, show_field};
+use f77_ast::name::Name;
+use f77_ast::program::{Card, Entity, Layout, Loop, Place, Region, Unit};
+use hyb_base::bytes::Bytes;
+use hyb_base::no_memory::NoMemory;
+
+/// Shows a blank and a number that may be missing: ` 10`, or ` -` where it is.
+fn show_optional(number: Option<u32>, into: &mut Bytes) -> Result<(), NoMemory> {
+    match number {
+        Some(number) => show_field(number, into),
+        None => into.push_slice(b" -".as_slice()),
+    }
+}
+
+/// Shows a blank and a name that may be missing: ` P`, or ` -` where it is.
+fn show_name(name: &Option<Name>, into: &mut Bytes) -> Result<(), NoMemory> {
+    into.push(b' ')?;
+    match name {
+        Some(name) => into.push_slice(name.as_slice()),
+        None => into.push(b'-'),
+    }
+}
+
+/// Shows a card as a line: `card`, its initial line, its label or `-`, and its text, as in `card 1 10 A=1` and
+/// `card 2 - END`.
+pub fn show_card(card: &Card, into: &mut Bytes) -> Result<(), NoMemory> {
+    into.push_slice(b"card".as_slice())?;
+    show_field(card.line, into)?;
+    show_optional(card.label, into)?;
+    into.push(b' ')?;
+    into.push_slice(card.text.as_slice())?;
+    into.push(b'\n')
+}
+
+/// Shows a unit as a line: `unit`, its name or `-`, and the number of its statements, as in `unit S 4` and `unit - 2`.
+pub fn show_unit(unit: &Unit, into: &mut Bytes) -> Result<(), NoMemory> {
+    into.push_slice(b"unit".as_slice())?;
+    show_name(&unit.name, into)?;
+    show_count(unit.listing.len(), into)?;
+    into.push(b'\n')
+}
+
+/// Shows a loop as a line: `loop`, the line of its DO statement, its ordinal, its unit, the first and the last statement
+/// of its range, and `closed` or `open`, as in `loop 2 1 0 3 5 closed`.
+pub fn show_loop(one: &Loop, into: &mut Bytes) -> Result<(), NoMemory> {
+    into.push_slice(b"loop".as_slice())?;
+    show_field(one.line, into)?;
+    show_field(one.ordinal, into)?;
+    show_field(one.unit, into)?;
+    show_field(one.from, into)?;
+    show_field(one.last, into)?;
+    into.push_slice(if one.closed {
+        b" closed\n".as_slice()
+    } else {
+        b" open\n".as_slice()
+    })
+}
+
+/// The number of addresses of a region: none where it doesn't start at this address.
+fn length_from(region: Option<&Region>, address: u32) -> Option<u32> {
+    match region {
+        Some(region) if region.start == address => Some(region.len),
+        Some(_region) => None,
+        None => None,
+    }
+}
+
+/// Shows an entity as a line: `entity`, its name, and where it is.
+///
+/// In storage that is its first address and the number of its addresses, which is that of its region, or `-` where the
+/// region starts elsewhere: `entity A 0 3`. For a dummy argument it is its place among the unit's dummies:
+/// `entity X dummy 1`. For a named constant it is the value: `entity N constant 5`.
+pub fn show_entity(
+    entity: &Entity,
+    region: Option<&Region>,
+    into: &mut Bytes,
+) -> Result<(), NoMemory> {
+    into.push_slice(b"entity ".as_slice())?;
+    into.push_slice(entity.name.as_slice())?;
+    match &entity.place {
+        Place::Stored(address) => {
+            show_field(*address, into)?;
+            show_optional(length_from(region, *address), into)?;
+        }
+        Place::Dummy(place) => {
+            into.push_slice(b" dummy".as_slice())?;
+            show_field(*place, into)?;
+        }
+        Place::Constant(value) => {
+            into.push_slice(b" constant ".as_slice())?;
+            show_expr(value, into)?;
+        }
+    }
+    into.push(b'\n')
+}
+
+/// Shows a word and a number as a line.
+fn show_total(word: &[u8], number: usize, into: &mut Bytes) -> Result<(), NoMemory> {
+    into.push_slice(word)?;
+    show_count(number, into)?;
+    into.push(b'\n')
+}
+
+/// Shows a layout: the line of each entity, with the region of the same place, and then `total 7`, the number of addresses.
+///
+/// Where the regions aren't as many as the entities, a line `regions 3` follows, and where the opening values aren't as
+/// many as the addresses, a line `values 3`.
+pub fn show_layout(layout: &Layout, into: &mut Bytes) -> Result<(), NoMemory> {
+    let regions = layout.regions.as_slice();
+    for place in 0..layout.entities.len() {
+        if let Some(entity) = layout.entities.get(place) {
+            show_entity(entity, regions.get(place), into)?;
+        }
+    }
+    let total = layout.total as usize;
+    show_total(b"total".as_slice(), total, into)?;
+    if regions.len() != layout.entities.len() {
+        show_total(b"regions".as_slice(), regions.len(), into)?;
+    }
+    if layout.first.len() != total {
+        show_total(b"values".as_slice(), layout.first.len(), into)?;
+    }
+    Ok(())
+}

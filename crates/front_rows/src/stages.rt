@@ -1,0 +1,115 @@
+//! The calls of the front end, one after another, up to the one whose result is shown.
+ghost use Rattle.std.specs.Prelude.{◌+◌, ◌^◌, ◌<◌, IsTrue};
+ghost use Rattle.f77_meaning.specs.Loops.{statement_count};
+
+use f77_ast::program::{Layout, Listed, Listing, Loops, Units};
+use f77_ast::refusal::{FrontError, Refusal};
+use f77_cards::cards::{Cards, cards};
+use f77_loops::loops::loops;
+use f77_operands::limit::too_many_operands;
+use f77_shape::shape::shape;
+use f77_stmts::stmt::stmt;
+use f77_subset::subset::subset;
+use hyb_base::no_memory::NoMemory;
+use std::alloc::Global;
+
+/// The most bytes that a source may have: that of a file that `hybrid` reads.
+const MOST_BYTES: usize = 1_048_576;
+
+/// The most units, and the most statements in any of them, that are counted.
+const MOST_COUNTED: usize = 20_000;
+
+/// Why a source makes nothing.
+#[derive(Clone, Copy)]
+pub enum Unmade {
+    /// A call refuses it.
+    Refused(Refusal),
+    /// It is larger than any file that `hybrid` reads.
+    TooLarge,
+    /// Memory failed.
+    NoMemory,
+}
+
+impl From<FrontError> for Unmade {
+    fn from(error: FrontError) -> Unmade {
+        match error {
+            FrontError::Refused(refusal) => Unmade::Refused(refusal),
+            FrontError::NoMemory => Unmade::NoMemory,
+        }
+    }
+}
+
+impl From<NoMemory> for Unmade {
+    fn from(_error: NoMemory) -> Unmade {
+        Unmade::NoMemory
+    }
+}
+
+/// The cards of a source.
+pub fn cards_of(alloc: Global, source: &[u8]) -> Result<Cards, Unmade> {
+    if source.len() > MOST_BYTES {
+        return Err(Unmade::TooLarge);
+    }
+    Ok(cards(alloc, source)?)
+}
+
+/// The units of a source.
+pub fn units_of(alloc: Global, source: &[u8]) -> Result<Units, Unmade> {
+    let mut statements = Listing::new(alloc);
+    for card in cards_of(alloc, source)?.into_vec() {
+        let spelled = stmt(alloc, &card)?;
+        statements.push(Listed {
+            card,
+            stmt: spelled,
+        })?;
+    }
+    Ok(shape(alloc, statements)?)
+}
+
+/// The units of a source, within the limit on operands.
+pub fn fitting_units_of(alloc: Global, source: &[u8]) -> Result<Units, Unmade> {
+    let units = units_of(alloc, source)?;
+    match too_many_operands(units.as_slice()) {
+        None => Ok(units),
+        Some(refusal) => Err(Unmade::Refused(refusal)),
+    }
+}
+
+/// Whether the statements of units can be counted, as they can where the shape of their file isn't refused.
+fn are_countable(units: &Units) -> bool
+    ensures { IsTrue result → statement_count units.now + 1 < 2 ^ 32 }
+{
+    let all = units.as_slice();
+    let mut count: usize = 0;
+    for unit in all {
+        if count > MOST_COUNTED || unit.listing.len() > MOST_COUNTED {
+            return false;
+        }
+        count += unit.listing.len();
+    }
+    true
+}
+
+/// The loops of units.
+fn loops_in(alloc: Global, units: &Units) -> Result<Loops, Unmade> {
+    if units.len() > MOST_COUNTED || !are_countable(units) {
+        return Err(Unmade::TooLarge);
+    }
+    Ok(loops(alloc, units)?)
+}
+
+/// The loops of a source.
+pub fn loops_of(alloc: Global, source: &[u8]) -> Result<Loops, Unmade> {
+    let units = fitting_units_of(alloc, source)?;
+    loops_in(alloc, &units)
+}
+
+/// The layout of a source.
+pub fn layout_of(alloc: Global, source: &[u8]) -> Result<Layout, Unmade> {
+    let units = fitting_units_of(alloc, source)?;
+    let loops = loops_in(alloc, &units)?;
+    if !are_countable(&units) {
+        return Err(Unmade::TooLarge);
+    }
+    Ok(subset(alloc, &units, &loops)?)
+}
