@@ -98,7 +98,7 @@ fn take(alloc: Global, word: &str, spelled: &mut Spelled) -> Result<bool, NoMemo
 }
 
 /// What some words spell: none where one can't be read.
-fn spelled(alloc: Global, words: &[&str]) -> Result<Option<Spelled>, NoMemory> {
+fn all_words(alloc: Global, words: &[&str]) -> Result<Option<Spelled>, NoMemory> {
     let mut spelled = Spelled::new(alloc);
     for word in words.iter().rev() {
         if !take(alloc, word, &mut spelled)? {
@@ -132,7 +132,7 @@ pub fn numbers(alloc: Global, line: &str) -> Result<Option<Nums>, NoMemory> {
 /// The symbol that a line spells.
 pub fn symbol(alloc: Global, line: &str) -> Result<Option<Sym>, NoMemory> {
     let words = words(alloc, line)?;
-    let Some(mut spelled) = spelled(alloc, words.as_slice())? else {
+    let Some(mut spelled) = all_words(alloc, words.as_slice())? else {
         return Ok(None);
     };
     let symbol = spelled.symbol();
@@ -142,7 +142,7 @@ pub fn symbol(alloc: Global, line: &str) -> Result<Option<Sym>, NoMemory> {
 /// The stride and the count that a line spells.
 pub fn dimension(alloc: Global, line: &str) -> Result<Option<(i64, Sym)>, NoMemory> {
     let words = words(alloc, line)?;
-    let Some(mut spelled) = spelled(alloc, words.as_slice())? else {
+    let Some(mut spelled) = all_words(alloc, words.as_slice())? else {
         return Ok(None);
     };
     match (spelled.number(), spelled.symbol()) {
@@ -236,7 +236,7 @@ pub fn pred(alloc: Global, line: &str) -> Result<Option<Pred>, NoMemory> {
     if *first == "STABLE" {
         return stable(alloc, rest);
     }
-    let Some(mut spelled) = spelled(alloc, rest)? else {
+    let Some(mut spelled) = all_words(alloc, rest)? else {
         return Ok(None);
     };
     let pred = pred_of(first, &mut spelled);
