@@ -7,6 +7,8 @@ use Rattle.sym_lmad.specs.Bindings.{FitsCells, IsReadable}
 use Rattle.sym_lmad.specs.Gain.{at_index}
 use Rattle.sym_lmad.specs.declared.sym.Sym.{Sym}
 use Rattle.sym_lmad.specs.Worth.{worth_of}
+use Rattle.pdag_nodes.specs.declared.pred.Pred.{Pred}
+use Rattle.pdag_nodes.specs.Nodes.{HaveIndices, meaning_of}
 use Rattle.pdag_nodes.specs.Steps.{SameButIndex, windows_of}
 use Rattle.pdag_nodes.specs.Windows.{window_by}
 
@@ -42,3 +44,11 @@ readable_still index old new z before values could can same v m h =
 -- and each window is that of the first bindings
 pub window_still : (index : ℕ) (old new now : Env) (z : ℤ) (before values : List ℤ) (low high : Sym) → now ≡ at_index new index z → SameButIndex index old new → values ≡ before → window_by (worth_of now values low) (worth_of now values high) ≡ windows_of old before index low high z
 window_still index old new now z before values low high e same v = λ i. window_by (worth_of ((e ∙ same.same z) i) (v i) low) (worth_of ((e ∙ same.same z) i) (v i) high)
+
+-- each index that is bound still has a place
+pub places_still : (nodes : List Pred) (index : ℕ) (old new : Env) (z : ℤ) → SameButIndex index old new → HaveIndices nodes (length old.indices) → HaveIndices nodes (length (at_index new index z).indices)
+places_still nodes index old new z same h = subst (HaveIndices nodes) (sym (length-set new.indices index z ∙ place_same index old new same)) h
+
+-- and a predicate is what it is over the first bindings
+pub meaning_still : (nodes : List Pred) (id index : ℕ) (old new now : Env) (z : ℤ) (before values : List ℤ) → now ≡ at_index new index z → SameButIndex index old new → values ≡ before → meaning_of values nodes id now ≡ meaning_of before nodes id (at_index old index z)
+meaning_still nodes id index old new now z before values e same v = λ i. meaning_of (v i) nodes id ((e ∙ same.same z) i)

@@ -51,3 +51,6 @@ sum_grows k (suc n) f h = go (cut k (suc n) (omega arith)) (λ less. sum_grows k
 -- one turn more than k, of n in all
 pub sum_within : (k n : ℕ) (f : ℤ → ℕ) → k < n → (sum_to k f + f (pos (k + 1))) ≤ sum_to n f
 sum_within k n f h = let e = sum_more k f in let g = sum_grows (k + 1) n f (omega arith) in omega (arith, e, g)
+
+pub each_failed : (k n : ℕ) (test : ℤ → Bool) → k < n → test (pos (k + 1)) ≡ false → each_to n test ≡ false
+each_failed k n test h e = each_false n test k h (ap (λ m. test (pos m)) (sym (add-one k)) ∙ e)

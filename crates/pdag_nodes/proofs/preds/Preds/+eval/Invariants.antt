@@ -23,8 +23,8 @@ decreases-every g l = 8 * l.body + 9
 abbrev pub decreases-each_turn : goal.decreases-each_turn
 decreases-each_turn g l = 8 * l.body + 8
 
-abbrev pub invariant-loop-turn : goal.invariant-loop-turn
-invariant-loop-turn g l = record {
+abbrev pub invariant-each_turn-loop-turn : goal.invariant-each_turn-loop-turn
+invariant-each_turn-loop-turn g l = record {
   kept : SameButIndex l.index l.initial.env l.env;
   values : g.C.Cells.values l.cells ≡ g.C.Cells.values l.initial.cells;
   test : g.C.Cells.may_get l.cells ≡ g.C.Cells.may_get l.initial.cells;
