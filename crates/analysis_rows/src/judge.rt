@@ -56,14 +56,26 @@ fn members(alloc: Global, lmad: &Lmad, env: &Env, store: &mut Store) -> Result<S
         None => format!(in alloc; "none : {all}")?,
     };
     add_numbers(&numbers, &mut text)?;
-    let reads = format!(in alloc; " : {} {}", second.saturating_sub(first), third.saturating_sub(second))?;
+    let reads = format!(in alloc;
+        " : {} {}",
+        second.saturating_sub(first),
+        third.saturating_sub(second)
+    )?;
     text.push_str(reads.as_str())?;
     Ok(text)
 }
 
 /// Whether the last predicate holds, and the reads.
-fn truth(alloc: Global, preds: &Preds, env: &mut Env, store: &mut Store) -> Result<String, AllocError> {
-    if !fit(env, store.nums.len()) || !have_indices(preds, env.indices.len()) {
+fn truth(
+    alloc: Global,
+    preds: &Preds,
+    env: &mut Env,
+    store: &mut Store,
+) -> Result<String, AllocError> {
+    if !fit(env, store.nums.len()) {
+        return UNFIT.to_string(alloc);
+    }
+    if !have_indices(preds, env.indices.len()) {
         return UNFIT.to_string(alloc);
     }
     let Some(last) = preds.len().checked_sub(1) else {

@@ -28,7 +28,10 @@ fn is_as_wanted(rt: &impl Print, alloc: Global, row: &mut Row) -> anyhow::Result
     if given.as_str() == row.wanted.as_str() {
         return Ok(true);
     }
-    println!(rt; "differs: {}: wanted {}, given {given}", row.name, row.wanted)?;
+    println!(rt;
+        "differs: {}: wanted {}, given {given}",
+        row.name, row.wanted
+    )?;
     Ok(false)
 }
 

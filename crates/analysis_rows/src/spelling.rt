@@ -136,7 +136,11 @@ pub fn symbol(alloc: Global, line: &str) -> Result<Option<Sym>, NoMemory> {
         return Ok(None);
     };
     let symbol = spelled.symbol();
-    if spelled.is_empty() { Ok(symbol) } else { Ok(None) }
+    if spelled.is_empty() {
+        Ok(symbol)
+    } else {
+        Ok(None)
+    }
 }
 
 /// The stride and the count that a line spells.
@@ -240,7 +244,11 @@ pub fn pred(alloc: Global, line: &str) -> Result<Option<Pred>, NoMemory> {
         return Ok(None);
     };
     let pred = pred_of(first, &mut spelled);
-    if spelled.is_empty() { Ok(pred) } else { Ok(None) }
+    if spelled.is_empty() {
+        Ok(pred)
+    } else {
+        Ok(None)
+    }
 }
 
 /// Whether the children of a predicate are among the first ones.

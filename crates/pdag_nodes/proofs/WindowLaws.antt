@@ -84,18 +84,21 @@ module _ (rising : Bool) (windows : Windows) where
 
   with_window : (n : ℕ) (w : ℤ × ℤ) → are_ascending rising windows n ≡ true → windows (pos (suc n)) ≡ Some w → (last : Option (ℤ × ℤ)) → Known n (Some last) → (full : Bool) → is_full w ≡ full → Step n (if full then (if follows rising last w then Some (Some w) else None) else Some last)
   with_window n w e is None known false f = (extend n (λ u. is_full u ≡ false) known (w, (is, f)), by_last n w true e is (in_order_with_empty n w (λ u. is_full u ≡ false) is f known))
-  with_window n w e is (Some last) known false f =
-      ((extend n (λ u. is_full u ≡ true → IsWithin rising u last) known.0 (w, (is, λ t. absurd (cc (f, t)))), (known.1.0, (known.1.1.0, (omega (arith, known.1.1.1.0), known.1.1.1.1)))),
-      by_last n w true e is (in_order_with_empty n w (λ u. is_full u ≡ true → IsWithin rising u last) is f known.0))
-  with_window n w e is None known true f =
-      ((extend n (λ u. is_full u ≡ true → IsWithin rising u w) (λ k less. let u = known k less in (u.0, (u.1.0, λ t. absurd (cc (u.1.1, t))))) (w, (is, λ t. within_itself rising w)), (f, (n, (omega arith, is)))),
-      by_last n w true e is (in_order_after_empty n w is f known))
+  with_window n w e is (Some last) known false f = (
+    (extend n (λ u. is_full u ≡ true → IsWithin rising u last) known.0 (w, (is, λ t. absurd (cc (f, t)))), (known.1.0, (known.1.1.0, (omega (arith, known.1.1.1.0), known.1.1.1.1)))),
+    by_last n w true e is (in_order_with_empty n w (λ u. is_full u ≡ true → IsWithin rising u last) is f known.0),
+  )
+  with_window n w e is None known true f = (
+    (extend n (λ u. is_full u ≡ true → IsWithin rising u w) (λ k less. let u = known k less in (u.0, (u.1.0, λ t. absurd (cc (u.1.1, t))))) (w, (is, λ t. within_itself rising w)), (f, (n, (omega arith, is)))),
+    by_last n w true e is (in_order_after_empty n w is f known),
+  )
   with_window n w e is (Some last) known true f = go (is_behind rising last w) refl
     where
       go : (b : Bool) → is_behind rising last w ≡ b → Step n (if b then Some (Some w) else None)
-      go true behind =
-          ((extend n (λ u. is_full u ≡ true → IsWithin rising u w) (λ k less. let u = known.0 k less in (u.0, (u.1.0, λ t. within_too rising u.0 last w (u.1.1 t) behind f))) (w, (is, λ t. within_itself rising w)), (f, (n, (omega arith, is)))),
-          by_last n w true e is (in_order_behind n w last is f behind known))
+      go true behind = (
+        (extend n (λ u. is_full u ≡ true → IsWithin rising u w) (λ k less. let u = known.0 k less in (u.0, (u.1.0, λ t. within_too rising u.0 last w (u.1.1 t) behind f))) (w, (is, λ t. within_itself rising w)), (f, (n, (omega arith, is)))),
+        by_last n w true e is (in_order_behind n w last is f behind known),
+      )
       go false behind = (tt, by_last n w false e is (out_of_order n w last is f behind known))
 
   one_more : (n : ℕ) (o : Option (Option (ℤ × ℤ))) → Known n o → are_ascending rising windows n ≡ is_some o → (wo : Option (ℤ × ℤ)) → windows (pos (suc n)) ≡ wo → Step n (pass rising o wo)

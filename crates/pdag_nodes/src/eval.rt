@@ -134,15 +134,15 @@ fn ascending<C: Cells>(
     requires place { index < length env.old.indices }
     ensures truth { result
         ≡ ascending_by rising (worth_of env.old (C.values cells.old) count.now)
-            (windows_of env.old (C.values cells.old) index low.now high.now) }
+        (windows_of env.old (C.values cells.old) index low.now high.now) }
     ensures same_env { env.new ≡ env.old }
     ensures same_values { C.values cells.new ≡ C.values cells.old }
     ensures same_test { C.may_get cells.new ≡ C.may_get cells.old }
     ensures reads { C.reads cells.new
         ≤ C.reads cells.old
-            + (reads_of count.now
-                + sum_by_count (worth_of env.old (C.values cells.old) count.now)
-                    (λ _. window_reads low.now high.now)) }
+        + (reads_of count.now
+        + sum_by_count (worth_of env.old (C.values cells.old) count.now)
+        (λ _. window_reads low.now high.now)) }
 {
     let Some(count) = value(count, env, cells) else {
         return false;
@@ -185,7 +185,7 @@ impl Preds {
         ensures same_test { C.may_get cells.new ≡ C.may_get cells.old }
         ensures reads { C.reads cells.new
             ≤ C.reads cells.old
-                + reads_by (C.values cells.old) (meaning_of (C.values cells.old) self.now) node.now env.old }
+            + reads_by (C.values cells.old) (meaning_of (C.values cells.old) self.now) node.now env.old }
     {
         match node {
             Pred::True => true,
@@ -215,15 +215,15 @@ impl Preds {
         requires room { HaveIndices self.now (length env.old.indices) }
         ensures truth { result
             ≡ (truth_of (C.values cells.old) self.now first env.old
-                && truth_of (C.values cells.old) self.now second env.old) }
+            && truth_of (C.values cells.old) self.now second env.old) }
         ensures same_env { env.new ≡ env.old }
         ensures same_values { C.values cells.new ≡ C.values cells.old }
         ensures same_test { C.may_get cells.new ≡ C.may_get cells.old }
         ensures reads { C.reads cells.new
             ≤ C.reads cells.old
-                + ((meaning_of (C.values cells.old) self.now first env.old).reads
-                    + where_asked (truth_of (C.values cells.old) self.now first env.old)
-                        (meaning_of (C.values cells.old) self.now second env.old).reads) }
+            + ((meaning_of (C.values cells.old) self.now first env.old).reads
+            + where_asked (truth_of (C.values cells.old) self.now first env.old)
+            (meaning_of (C.values cells.old) self.now second env.old).reads) }
     {
         if self.eval(first, env, cells) {
             self.eval(second, env, cells)
@@ -241,15 +241,15 @@ impl Preds {
         requires room { HaveIndices self.now (length env.old.indices) }
         ensures truth { result
             ≡ (truth_of (C.values cells.old) self.now first env.old
-                || truth_of (C.values cells.old) self.now second env.old) }
+            || truth_of (C.values cells.old) self.now second env.old) }
         ensures same_env { env.new ≡ env.old }
         ensures same_values { C.values cells.new ≡ C.values cells.old }
         ensures same_test { C.may_get cells.new ≡ C.may_get cells.old }
         ensures reads { C.reads cells.new
             ≤ C.reads cells.old
-                + ((meaning_of (C.values cells.old) self.now first env.old).reads
-                    + where_asked (not (truth_of (C.values cells.old) self.now first env.old))
-                        (meaning_of (C.values cells.old) self.now second env.old).reads) }
+            + ((meaning_of (C.values cells.old) self.now first env.old).reads
+            + where_asked (not (truth_of (C.values cells.old) self.now first env.old))
+            (meaning_of (C.values cells.old) self.now second env.old).reads) }
     {
         if self.eval(first, env, cells) {
             true
@@ -260,22 +260,29 @@ impl Preds {
 
     /// Whether a predicate holds at each value of an index from 1 to a count, the bindings being as before afterwards.
     #[cycle(eval)]
-    fn every<C: Cells>(&self, index: u32, count: &Sym, body: PredId, env: &mut Env, cells: &mut C) -> bool
+    fn every<C: Cells>(
+        &self,
+        index: u32,
+        count: &Sym,
+        body: PredId,
+        env: &mut Env,
+        cells: &mut C,
+    ) -> bool
         requires readable { IsReadable env.old (C.values cells.old) (C.may_get cells.old) }
         requires place { index < length env.old.indices }
         requires there { body < length self.now }
         requires room { HaveIndices self.now (length env.old.indices) }
         ensures truth { result
             ≡ every_by (worth_of env.old (C.values cells.old) count.now)
-                (λ i. truth_of (C.values cells.old) self.now body (at_index env.old index i)) }
+            (λ i. truth_of (C.values cells.old) self.now body (at_index env.old index i)) }
         ensures same_env { env.new ≡ env.old }
         ensures same_values { C.values cells.new ≡ C.values cells.old }
         ensures same_test { C.may_get cells.new ≡ C.may_get cells.old }
         ensures reads { C.reads cells.new
             ≤ C.reads cells.old
-                + (reads_of count.now
-                    + sum_by_count (worth_of env.old (C.values cells.old) count.now)
-                        (λ i. (meaning_of (C.values cells.old) self.now body (at_index env.old index i)).reads)) }
+            + (reads_of count.now
+            + sum_by_count (worth_of env.old (C.values cells.old) count.now)
+            (λ i. (meaning_of (C.values cells.old) self.now body (at_index env.old index i)).reads)) }
     {
         let Some(count) = value(count, env, cells) else {
             return false;
@@ -288,7 +295,14 @@ impl Preds {
 
     /// Whether a predicate holds at each value of an index from 1 to a count. The index is left as it was last set.
     #[cycle(eval)]
-    fn each_turn<C: Cells>(&self, index: u32, count: u64, body: PredId, env: &mut Env, cells: &mut C) -> bool
+    fn each_turn<C: Cells>(
+        &self,
+        index: u32,
+        count: u64,
+        body: PredId,
+        env: &mut Env,
+        cells: &mut C,
+    ) -> bool
         requires readable { IsReadable env.old (C.values cells.old) (C.may_get cells.old) }
         requires place { index < length env.old.indices }
         requires small { count < 2 ^ 63 }
@@ -301,8 +315,8 @@ impl Preds {
         ensures same_test { C.may_get cells.new ≡ C.may_get cells.old }
         ensures reads { C.reads cells.new
             ≤ C.reads cells.old
-                + sum_to count
-                    (λ i. (meaning_of (C.values cells.old) self.now body (at_index env.old index i)).reads) }
+            + sum_to count
+            (λ i. (meaning_of (C.values cells.old) self.now body (at_index env.old index i)).reads) }
     {
         for turn in 0..count {
             env.indices.set(index as usize, ordinal(turn));

@@ -44,7 +44,9 @@ fn shares_one(env: &Env, entity: i64, entities: &[i64]) -> bool
 fn share_one(env: &Env, entities: &[i64], others: &[i64]) -> bool
     ensures { result ≡ list_any (λ entity. spec.shares_one env.now entity others.now) entities.now }
 {
-    entities.iter().any(|entity| shares_one(env, *entity, others))
+    entities
+        .iter()
+        .any(|entity| shares_one(env, *entity, others))
 }
 
 /// Whether no region of a read entity is the region of a written one. An entity without a region is in nobody's way.

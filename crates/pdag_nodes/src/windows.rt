@@ -82,6 +82,10 @@ pub(crate) fn window<C: Cells>(low: &Sym, high: &Sym, env: &Env, cells: &mut C) 
     ensures reads { C.reads cells.new ≤ C.reads cells.old + window_reads low.now high.now }
 {
     let first = value(low, env, cells);
-    let last = if same(low, high) { first } else { value(high, env, cells) };
+    let last = if same(low, high) {
+        first
+    } else {
+        value(high, env, cells)
+    };
     between(first, last)
 }

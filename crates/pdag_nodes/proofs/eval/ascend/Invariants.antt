@@ -10,5 +10,5 @@ invariant-loop-turn g l = record {
   values : g.C.Cells.values l.cells ≡ g.C.Cells.values l.initial.cells;
   test : g.C.Cells.may_get l.cells ≡ g.C.Cells.may_get l.initial.cells;
   reads : g.C.Cells.reads l.cells ≤ g.C.Cells.reads l.initial.cells + sum_to l.turn (λ _. window_reads l.low l.high);
-  last : passed_to l.rising (windows_of l.initial.env (g.C.Cells.values l.initial.cells) l.index l.low l.high) l.turn ≡ Some l.last
+  last : passed_to l.rising (windows_of l.initial.env (g.C.Cells.values l.initial.cells) l.index l.low l.high) l.turn ≡ Some l.last;
 }

@@ -162,6 +162,6 @@ each_turn-eval-requires g t c =
     let now = record c.loop-turn.env { indices = c.set.new.self } in
     let is_now : now ≡ at_index c.loop-turn.env index (pos (turn + 1)) = set_is c.loop-turn.env c.set.new.self index c.ordinal.result (pos (turn + 1)) set c.ordinal.ensures in
     let readable : IsReadable now (g.C.Cells.values c.loop-turn.cells) (g.C.Cells.may_get c.loop-turn.cells) = subst (λ e. IsReadable e (g.C.Cells.values c.loop-turn.cells) (g.C.Cells.may_get c.loop-turn.cells)) (sym is_now)
-        (readable_still index env c.loop-turn.env (pos (turn + 1)) values (g.C.Cells.values c.loop-turn.cells) (g.C.Cells.may_get c.args.cells.now) (g.C.Cells.may_get c.loop-turn.cells) inv.kept inv.values inv.test c.requires.readable) in
+    (readable_still index env c.loop-turn.env (pos (turn + 1)) values (g.C.Cells.values c.loop-turn.cells) (g.C.Cells.may_get c.args.cells.now) (g.C.Cells.may_get c.loop-turn.cells) inv.kept inv.values inv.test c.requires.readable) in
     let room : HaveIndices nodes (length now.indices) = subst (λ (e : Env). HaveIndices nodes (length e.indices)) (sym is_now) (places_still nodes index env c.loop-turn.env (pos (turn + 1)) inv.kept c.requires.room) in
     search rules

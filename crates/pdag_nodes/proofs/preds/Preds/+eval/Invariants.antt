@@ -29,5 +29,5 @@ invariant-each_turn-loop-turn g l = record {
   values : g.C.Cells.values l.cells ≡ g.C.Cells.values l.initial.cells;
   test : g.C.Cells.may_get l.cells ≡ g.C.Cells.may_get l.initial.cells;
   reads : g.C.Cells.reads l.cells ≤ g.C.Cells.reads l.initial.cells + sum_to l.turn (λ i. (meaning_of (g.C.Cells.values l.initial.cells) l.self l.body (at_index l.initial.env l.index i)).reads);
-  held : each_to l.turn (λ i. truth_of (g.C.Cells.values l.initial.cells) l.self l.body (at_index l.initial.env l.index i)) ≡ true
+  held : each_to l.turn (λ i. truth_of (g.C.Cells.values l.initial.cells) l.self l.body (at_index l.initial.env l.index i)) ≡ true;
 }
