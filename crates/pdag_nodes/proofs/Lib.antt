@@ -1,0 +1,4 @@
+pub mod EnvLaws
+pub mod NodeLaws
+pub mod TurnLaws
+pub mod WindowLaws

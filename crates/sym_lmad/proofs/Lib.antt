@@ -1,0 +1,10 @@
+pub mod Bindings
+pub mod EndLaws
+pub mod GainLaws
+pub mod Intervals
+pub mod Lists
+pub mod MemberLaws
+pub mod Near
+pub mod NumberLaws
+pub mod PutLaws
+pub mod Symbols

@@ -1,0 +1,10 @@
+pub mod Bindings
+pub mod Ends
+pub mod Gain
+pub mod Interval
+pub mod Members
+pub mod Naming
+pub mod Numbers
+pub mod Put
+pub mod Same
+pub mod Worth
