@@ -1,0 +1,6 @@
+-- The definitions that the contracts cite.
+pub mod Conflicts
+pub mod Executions
+pub mod Laws
+pub mod Regions
+pub mod Verdicts
