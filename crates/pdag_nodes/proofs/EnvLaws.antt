@@ -1,9 +1,9 @@
 -- Bindings in which one index goes through its values.
-use Rattle.std.proofs.Common.{◌≡◌, ℕ, ◌<◌, ℤ, List, length, slice_set, slice_get, unwrap_or, Bool, refl, ap, sym, subst, ◌∙◌, arith, pos, length-set}
+use Rattle.std.proofs.Common.{◌≡◌, ℕ, ℤ, List, length, slice_set, slice_get, unwrap_or, Bool, refl, ap, sym, subst, ◌∙◌, pos, length-set}
 use Rattle.std.proofs.lemmas.List.{set-set, set-get_or}
 use Rattle.std.proofs.lemmas.Option.{unwrap_or-slice_get}
 use Rattle.hyb_base.specs.declared.env.Env.{Env}
-use Rattle.sym_lmad.specs.Bindings.{FitsCells, IsReadable}
+use Rattle.sym_lmad.specs.Bindings.{IsReadable}
 use Rattle.sym_lmad.specs.Gain.{at_index}
 use Rattle.sym_lmad.specs.declared.sym.Sym.{Sym}
 use Rattle.sym_lmad.specs.Worth.{worth_of}

@@ -1,5 +1,5 @@
 -- A predicate of a list is what it is by its children.
-use Rattle.std.proofs.Common.{◌≡◌, ◌≢◌, ℕ, zero, suc, ◌+◌, ◌<◌, ◌==◌, ◌⊎◌, inl, inr, ℤ, Bool, true, false, ◌&&◌, ◌||◌, not, List, [], ◌∷◌, ◌++◌, length, reverse, Option, Some, None, nat_lt, IsTrue, slice_get, refl, ap, sym, subst, ◌∙◌, arith}
+use Rattle.std.proofs.Common.{◌≡◌, ℕ, zero, suc, ◌+◌, ◌<◌, ◌==◌, ◌⊎◌, inl, inr, ℤ, Bool, true, false, ◌&&◌, ◌||◌, not, List, [], ◌∷◌, ◌++◌, length, reverse, Some, nat_lt, IsTrue, slice_get, refl, ap, sym, subst, ◌∙◌, arith}
 use Rattle.std.proofs.lemmas.Bool.{eqb-false}
 use Rattle.std.proofs.lemmas.Bool.Decides.{nat_tests}
 use Rattle.std.proofs.lemmas.List.{reverse-append, reverse-reverse, length-reverse}
@@ -9,7 +9,7 @@ use Rattle.sym_lmad.specs.Naming.{reads_of}
 use Rattle.sym_lmad.specs.Worth.{worth_of}
 use Rattle.pdag_nodes.specs.declared.pred.Pred.{Pred}
 use Rattle.pdag_nodes.specs.declared.pred.Pred.TheVariants as p
-use Rattle.pdag_nodes.specs.Nodes.{children_below, HaveEarlierChildren, ChildrenBelow, Meaning, Meanings, meaning_by, chosen, meanings_of, meaning_of, every_by, sum_by_count, OlderOnesStay}
+use Rattle.pdag_nodes.specs.Nodes.{children_below, HaveEarlierChildren, ChildrenBelow, Meanings, meaning_by, chosen, meanings_of, meaning_of, every_by, sum_by_count, OlderOnesStay}
 use Rattle.pdag_nodes.specs.Windows.{where_asked}
 
 some_is : {X : Type 0} (x y : X) → Some x ≡ Some y → x ≡ y

@@ -1,8 +1,7 @@
 -- One pass over windows finds whether each two of them are in order.
-use Rattle.std.proofs.Common.{◌≡◌, ℕ, zero, suc, ◌+◌, ◌<◌, ◌≤◌, ◌⊎◌, inl, inr, ℤ, pos, ◌<ℤ◌, ◌≤ℤ◌, Bool, true, false, ◌&&◌, Option, Some, None, is_some, int_le, int_lt, if◌then◌else◌, refl, ap, sym, subst, ◌∙◌, arith, add-one}
+use Rattle.std.proofs.Common.{◌≡◌, ℕ, zero, suc, ◌+◌, ◌<◌, ◌≤◌, ◌⊎◌, inl, inr, ℤ, pos, ◌<ℤ◌, ◌≤ℤ◌, Bool, true, false, ◌&&◌, Option, Some, None, is_some, if◌then◌else◌, refl, ap, sym, subst, ◌∙◌, arith, add-one}
 use Rattle.std.proofs.lemmas.Int.{ints}
-use Rattle.pdag_nodes.specs.Turns.{each_to}
-use Rattle.pdag_nodes.specs.Windows.{Windows, is_full, is_behind, are_in_order, follows_all, are_ascending, follows, passed, pass, passed_to}
+use Rattle.pdag_nodes.specs.Windows.{Windows, is_full, is_behind, are_in_order, follows_all, are_ascending, follows, pass, passed_to}
 use Rattle.pdag_nodes.proofs.TurnLaws.{cut, each_true, each_false}
 
 -- a window isn't beyond another one

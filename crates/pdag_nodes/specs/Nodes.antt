@@ -1,8 +1,7 @@
 -- The truth of predicates, and how many cells are read to find it.
-use Rattle.std.specs.Prelude.{◌≡◌, ℕ, zero, suc, ◌+◌, ◌*◌, ◌==◌, ◌<◌, ℤ, pos, Bool, true, false, ◌&&◌, ◌||◌, not, List, [], ◌∷◌, ◌++◌, length, reverse, Option, Some, None, nat_lt, int_le, if◌then◌else◌, IsTrue, slice_get}
+use Rattle.std.specs.Prelude.{◌≡◌, ℕ, ◌+◌, ◌==◌, ◌<◌, ℤ, Bool, true, false, ◌&&◌, ◌||◌, not, List, [], ◌∷◌, ◌++◌, length, reverse, Option, Some, None, nat_lt, int_le, IsTrue, slice_get}
 use Rattle.std.specs.Ordering.{int_eq}
 use Rattle.hyb_base.specs.declared.env.Env.{Env}
-use Rattle.sym_lmad.specs.declared.sym.Sym.{Sym}
 use Rattle.sym_lmad.specs.Gain.{at_index}
 use Rattle.sym_lmad.specs.Naming.{reads_of}
 use Rattle.sym_lmad.specs.Worth.{worth_of}

@@ -1,5 +1,5 @@
 -- Windows at each number from 1 to a count, and whether they follow each other.
-use Rattle.std.specs.Prelude.{◌≡◌, ℕ, zero, suc, ℤ, pos, Bool, true, false, ◌&&◌, not, Option, Some, None, is_some, int_le, int_lt, if◌then◌else◌}
+use Rattle.std.specs.Prelude.{ℕ, zero, suc, ℤ, pos, Bool, true, false, ◌&&◌, Option, Some, None, is_some, int_le, int_lt, if◌then◌else◌}
 use Rattle.pdag_nodes.specs.Turns.{each_to}
 
 -- the reads of what is asked, or none

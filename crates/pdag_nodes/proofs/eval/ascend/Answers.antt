@@ -1,14 +1,10 @@
-use Rattle.std.proofs.Common.{◌≡◌, ℕ, ◌+◌, ◌<◌, ◌≤◌, ℤ, pos, List, length, Some, None, true, false, is_some, slice_set, slice_get, unwrap_or, FitsSigned, rules, refl, ap, sym, subst, ◌∙◌, arith}
+use Rattle.std.proofs.Common.{◌≡◌, ◌+◌, ◌<◌, pos, Some, None, is_some, slice_set, FitsSigned, rules, ap, sym, subst, ◌∙◌, arith}
 use Rattle.std.proofs.lemmas.Int.{to_z-of_z}
-use Rattle.hyb_base.specs.declared.env.Env.{Env}
 use Rattle.sym_lmad.specs.Bindings.{IsReadable}
 use Rattle.sym_lmad.specs.Gain.{at_index}
-use Rattle.sym_lmad.specs.Worth.{worth_of}
-use Rattle.pdag_nodes.specs.Nodes.{ascending_by}
 use Rattle.pdag_nodes.specs.Steps.{windows_of, window_reads, SameButIndex}
-use Rattle.pdag_nodes.specs.Turns.{sum_to}
-use Rattle.pdag_nodes.specs.Windows.{Windows, window_by, are_ascending, passed_to, pass}
-use Rattle.pdag_nodes.proofs.EnvLaws.{set_is, same_after, place_same, set_back, readable_still, window_still}
+use Rattle.pdag_nodes.specs.Windows.{are_ascending, pass}
+use Rattle.pdag_nodes.proofs.EnvLaws.{set_is, same_after, place_same, readable_still, window_still}
 use Rattle.pdag_nodes.proofs.TurnLaws.{sum_more, sum_within}
 use Rattle.pdag_nodes.proofs.WindowLaws.{pass_is, pass_more, not_ascending}
 use Rattle.pdag_nodes.proofs.eval.ascend.Goals as goal

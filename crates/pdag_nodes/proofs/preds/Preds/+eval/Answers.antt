@@ -1,4 +1,4 @@
-use Rattle.std.proofs.Common.{◌≡◌, ℕ, ◌+◌, ◌<◌, ◌≤◌, ℤ, pos, List, length, Some, None, true, false, ◌&&◌, ◌||◌, not, slice_set, slice_get, unwrap_or, FitsSigned, rules, refl, ap, sym, subst, ◌∙◌, arith}
+use Rattle.std.proofs.Common.{◌≡◌, ◌+◌, ◌<◌, ◌≤◌, ℤ, pos, length, Some, true, false, slice_set, slice_get, unwrap_or, FitsSigned, rules, ap, sym, subst, ◌∙◌, arith}
 use Rattle.std.proofs.lemmas.Int.{to_z-of_z}
 use Rattle.hyb_base.specs.declared.env.Env.{Env}
 use Rattle.sym_lmad.specs.Bindings.{IsReadable}
@@ -6,8 +6,7 @@ use Rattle.sym_lmad.specs.Gain.{at_index}
 use Rattle.sym_lmad.specs.Worth.{worth_of}
 use Rattle.pdag_nodes.specs.Nodes.{HaveIndices, Meaning, meaning_of, truth_of, every_by, reads_by}
 use Rattle.pdag_nodes.specs.Steps.{SameButIndex}
-use Rattle.pdag_nodes.specs.Turns.{each_to, sum_to}
-use Rattle.pdag_nodes.specs.Windows.{where_asked}
+use Rattle.pdag_nodes.specs.Turns.{each_to}
 use Rattle.pdag_nodes.proofs.EnvLaws.{set_is, same_after, place_same, set_back, readable_still, places_still, meaning_still}
 use Rattle.pdag_nodes.proofs.TurnLaws.{sum_more, sum_within, each_more, each_failed}
 use Rattle.pdag_nodes.proofs.preds.Preds.+eval.Goals as goal
