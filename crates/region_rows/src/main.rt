@@ -2,12 +2,18 @@
 //! compared with what it is to give.
 #![tactic(auto)]
 
+mod copies;
+mod memory;
+mod partials;
+mod regions;
 mod row;
 mod schedule;
+mod script;
 
 use anyhow::{Context, ensure};
 use row::{Kind, Row, Unreadable};
 use row_lines::shown::Shown;
+use script::Stage;
 use std::alloc::{AllocError, Global};
 use std::process::ExitCode;
 use std::rt::Files;
@@ -24,6 +30,8 @@ struct Tally {
 fn given(alloc: Global, row: &Row) -> Result<String, AllocError> {
     match row.kind {
         Kind::Schedule => schedule::given(alloc, &row.words, &row.source),
+        Kind::Copies => script::given(alloc, Stage::copies(alloc)?, &row.source),
+        Kind::Partials => script::given(alloc, Stage::partials(alloc)?, &row.source),
     }
 }
 

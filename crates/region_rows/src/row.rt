@@ -12,6 +12,10 @@ use thiserror::Error;
 pub enum Kind {
     /// `schedule`: the source is a schedule file, and the words are the steps whose picks are shown.
     Schedule,
+    /// `copies`: the source is a script over private copies.
+    Copies,
+    /// `partials`: the source is a script over partial results.
+    Partials,
 }
 
 /// A row: what is given, and what is wanted.
@@ -150,8 +154,14 @@ impl Draft {
 
 /// What a row is about, and the words that follow.
 fn kind_of(command: &[u8]) -> Option<(Kind, &[u8])> {
-    let words = command.strip_prefix(b"schedule")?;
-    Some((Kind::Schedule, words))
+    if let Some(words) = command.strip_prefix(b"schedule") {
+        return Some((Kind::Schedule, words));
+    }
+    if let Some(words) = command.strip_prefix(b"copies") {
+        return Some((Kind::Copies, words));
+    }
+    let words = command.strip_prefix(b"partials")?;
+    Some((Kind::Partials, words))
 }
 
 /// The rows of a file in their order, each of them read or not. Lines before the first name are one that isn't, and so is a

@@ -1,0 +1,77 @@
+//! Partial results of the rows, and the cells that they are committed to.
+ghost use Rattle.std.specs.Prelude.{◌≡◌, ◌≤◌, ◌+◌, ℕ, true, All, length};
+ghost use Rattle.slot_rows.specs.Rows.{window_of, regions_of};
+ghost use Rattle.slot_rows.specs.Spans.{has_address};
+ghost use Rattle.red_ops.specs.Partials.{rows_of};
+ghost use Rattle.region_rows.specs.Memory.{values_of};
+ghost use Rattle.region_rows.specs.Regions.{IsHeld};
+
+use crate::memory::Memory;
+use crate::regions::{TOTAL, WINDOW, falling_numbers, falling_ops, is_held, layout};
+use hyb_base::cells::Cells;
+use hyb_base::no_memory::NoMemory;
+use red_ops::Partials;
+use std::alloc::Global;
+
+/// Partial results, and the cells that they are committed to.
+#[derive(Drop)]
+pub struct PartialsStage {
+    partials: Partials,
+    cells: Memory,
+    ghost window: { window_of (rows_of partials) ≡ 3 },
+    ghost size: { length (values_of cells) ≡ 1001000 },
+    ghost held: { (a : ℕ) → IsHeld a → has_address (regions_of (rows_of partials)) a ≡ true },
+    ghost within: { All (λ r. r.start + r.len ≤ 1001000) (regions_of (rows_of partials)) },
+}
+
+impl PartialsStage {
+    /// Nothing written, and cells of 0.
+    pub fn new(alloc: Global) -> Result<PartialsStage, NoMemory> {
+        let layout = layout(alloc)?;
+        let numbers = falling_numbers(alloc)?;
+        let ops = falling_ops(alloc)?;
+        let partials = Partials::reserve(alloc, WINDOW, &numbers, &ops, &layout)?;
+        let cells = Memory::new(alloc, TOTAL as usize)?;
+        Ok(PartialsStage { partials, cells })
+    }
+
+    /// The cells.
+    pub fn cells(&self) -> &Memory {
+        &self.cells
+    }
+
+    /// Sets a cell. False where there is none.
+    pub fn set(&mut self, address: u32, value: i64) -> bool {
+        if address >= TOTAL {
+            return false;
+        }
+        self.cells.put(address, value);
+        true
+    }
+
+    /// The partial result of a slot at an address: none where there is no such slot or address.
+    pub fn get(&self, slot: u32, address: u32) -> Option<i64> {
+        if slot >= WINDOW || !is_held(address) {
+            return None;
+        }
+        Some(self.partials.get(slot, address))
+    }
+
+    /// Writes for a slot. False where there is no such slot or address.
+    pub fn put(&mut self, slot: u32, address: u32, value: i64) -> bool {
+        if slot >= WINDOW || !is_held(address) {
+            return false;
+        }
+        self.partials.put(slot, address, value);
+        true
+    }
+
+    /// Commits what a slot wrote. False where there is no such slot.
+    pub fn commit(&mut self, slot: u32) -> bool {
+        if slot >= WINDOW {
+            return false;
+        }
+        self.partials.commit(slot, &mut self.cells);
+        true
+    }
+}
