@@ -1,21 +1,16 @@
 -- Which programs are sound.
-use Rattle.std.proofs.Common.{◌≡◌, ℕ, zero, suc, ◌+◌, ◌<◌, ◌^◌, length, List, [], ◌∷◌, ◌++◌, All, refl, sym, subst, arith, slice_get, IsSome, IsTrue, Some, Bool, true, false, ap, ◌∙◌}
-use Rattle.std.specs.Option.{is_some}
-use Rattle.std.specs.Prelude.{◌||◌}
-use Rattle.f77_ast.specs.declared.expr.Expr.{Expr}
-use Rattle.f77_ast.specs.declared.program.Entity.{Entity}
+use Rattle.std.proofs.Common.{◌≡◌, ℕ, zero, suc, ◌+◌, ◌<◌, ◌^◌, length, List, [], ◌∷◌, ◌++◌, All, refl, sym, subst, arith, slice_get, IsSome, IsTrue, Some}
 use Rattle.f77_ast.specs.declared.program.Layout.{Layout}
 use Rattle.f77_ast.specs.declared.program.Listed.{Listed}
 use Rattle.f77_ast.specs.declared.program.Program.{Program}
 use Rattle.f77_ast.specs.declared.program.Unit.{Unit as ProgramUnit}
-use Rattle.f77_ast.specs.declared.stmt.Item.{Plain}
 use Rattle.f77_ast.specs.declared.stmt.Stmt.{End}
-use Rattle.f77_meaning.specs.Arrays.{array_named}
-use Rattle.f77_meaning.specs.Loops.{loops_of, statement_count}
-use Rattle.f77_meaning.specs.Ranges.{RangesNest}
-use Rattle.f77_meaning.specs.Resolves.{item_resolves, resolves, statement_resolves}
-use Rattle.f77_meaning.specs.Sound.{EndsWithEnd, IsSound}
-use Rattle.f77_meaning.specs.Storage.{IsStorage}
+use Rattle.f77_structure.specs.Loops.{loops_of}
+use Rattle.f77_structure.specs.Units.{statement_count, EndsWithEnd}
+use Rattle.f77_structure.specs.Ranges.{RangesNest}
+use Rattle.f77_structure.specs.Resolves.{statement_resolves}
+use Rattle.f77_meaning.specs.Sound.{IsSound}
+use Rattle.f77_structure.specs.Storage.{IsStorage}
 
 -- what holds of the one item of a list holds of each
 all_of_one : {X : Type 0} (P : X → Type 0) (x : X) → P x → All P (x ∷ [])
@@ -46,15 +41,3 @@ one_unit_is_sound program main before last units listing ends resolved storage l
       ranges = subst (All (λ unit. RangesNest unit.listing)) (sym units) (all_of_one (λ unit. RangesNest unit.listing) main ranges);
       counted = subst (λ us. statement_count us + 1 < 2 ^ 32) (sym units) (omega (arith, few));
     }
-
--- an expression whose references name entities may be an item
-pub plain_resolves : (layout : Layout) (unit : ℕ) (expr : Expr) → resolves layout unit expr ≡ true → item_resolves layout unit (Plain expr) ≡ true
-plain_resolves layout unit expr e = ap (λ b. b || is_some (array_named layout unit expr)) e
-
--- and so may an array's name
-pub array_resolves : (layout : Layout) (unit : ℕ) (expr : Expr) (array : Entity) → array_named layout unit expr ≡ Some array → item_resolves layout unit (Plain expr) ≡ true
-array_resolves layout unit expr array e = ap (λ o. resolves layout unit expr || is_some o) e ∙ by (resolves layout unit expr)
-  where
-    by : (b : Bool) → (b || true) ≡ true
-    by true = refl
-    by false = refl

@@ -15,7 +15,7 @@ use Rattle.f77_ast.specs.declared.program.Layout.{Layout}
 use Rattle.f77_ast.specs.declared.fault.Fault.{Fault}
 use Rattle.f77_ast.specs.declared.fault.Fault.TheVariants.{ZeroDivisor, Subscript}
 use Rattle.f77_ast.specs.Entity.{entity_in}
-use Rattle.f77_meaning.specs.Storage.{is_scalar, start_of, vector_extent}
+use Rattle.f77_structure.specs.Storage.{is_scalar, start_of, vector_extent}
 
 -- what an evaluation comes to: a value and the answers that are left, the address of the unit that is read next, or a fault
 pub data Demand (A : Type 0) : Type 0 where

@@ -8,7 +8,7 @@ use Rattle.f77_ast.specs.declared.expr.Expr.TheOpen as layer
 use Rattle.f77_ast.specs.declared.expr.Ref.{Ref}
 use Rattle.f77_ast.specs.declared.program.Entity.{Entity}
 use Rattle.f77_ast.specs.declared.program.Layout.{Layout}
-use Rattle.f77_meaning.specs.Storage.{is_vector}
+use Rattle.f77_structure.specs.Storage.{is_vector}
 
 -- an entity that is an array of one dimension; more dimensions have no meaning yet
 abbrev pub if_array : Option Entity → Option Entity

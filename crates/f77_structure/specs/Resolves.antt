@@ -12,8 +12,8 @@ use Rattle.f77_ast.specs.declared.program.Layout.{Layout}
 use Rattle.f77_ast.specs.declared.stmt.Item.{Item, Plain}
 use Rattle.f77_ast.specs.declared.stmt.LoopControl.{LoopControl}
 use Rattle.f77_ast.specs.declared.stmt.Stmt.{Stmt, Assign, Do, Print}
-use Rattle.f77_meaning.specs.Arrays.{array_named}
-use Rattle.f77_meaning.specs.Storage.{is_scalar, is_vector}
+use Rattle.f77_structure.specs.Arrays.{array_named}
+use Rattle.f77_structure.specs.Storage.{is_scalar, is_vector}
 
 -- whether a reference names an entity: a variable without a subscript, or an array of one dimension with one, whose own
 -- references do
