@@ -1,5 +1,5 @@
 -- The storage units of the entities of a program (ANSI X3.9-1978, sections 2.13, 5.1.2, 5.2.5, 5.4 and 17.1.1).
-use Rattle.std.specs.Prelude.{◌≡◌, ℕ, ◌+◌, ◌≤◌, ◌^◌, pos, Bool, true, false, List, [], ◌∷◌, length, map, All, take, Option, None, Some, slice_get}
+use Rattle.std.specs.Prelude.{◌≡◌, ℕ, suc, ℤ, nat_lt, if◌then◌else◌, ◌+◌, ◌≤◌, ◌^◌, pos, Bool, true, false, List, [], ◌∷◌, length, map, All, take, Option, None, Some, slice_get}
 use Rattle.std.specs.List.{repeat}
 use Rattle.std.specs.Option.{is_some}
 use Rattle.f77_ast.specs.declared.expr.Expr.{Expr, out-Expr}
@@ -94,3 +94,15 @@ pub record IsLaidOut (layout : Layout) : Type 0 where
   pub regions : layout.regions ≡ map region_of layout.entities
   pub total : layout.total ≡ storage_units_of_all layout.entities
   pub first : layout.first ≡ repeat layout.total (pos 0 ∷ [])
+
+-- stand-in
+abbrev pub offset_of : (subscript : ℤ) → Option ℕ
+offset_of (pos (suc k)) = Some k
+offset_of _ = None
+
+abbrev pub address_by : (start : ℕ) → (extent offset : Option ℕ) → Option ℕ
+address_by start (Some extent) (Some k) = if nat_lt k extent then Some (start + k) else None
+address_by start _ _ = None
+
+abbrev pub element_of : Entity → (subscript : ℤ) → Option ℕ
+element_of entity subscript = address_by (start_of entity) (vector_extent entity.bounds) (offset_of subscript)

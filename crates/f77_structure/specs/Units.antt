@@ -90,3 +90,7 @@ statement_number units unit at = 1 + (statements_before units unit + at)
 -- the place of the main unit among some units; their number where there is none
 abbrev pub main_unit : List ProgramUnit → ℕ
 main_unit units = position_or_len (λ unit. is_main unit.listing) units
+
+-- stand-in
+abbrev pub main_of : List ProgramUnit → ℕ
+main_of units = prefix_len (λ unit. not (is_main unit.listing)) units
