@@ -9,3 +9,4 @@ pub mod Statements
 pub mod Storage
 pub mod Stretches
 pub mod Units
+pub mod Values
