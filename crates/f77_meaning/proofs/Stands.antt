@@ -8,12 +8,12 @@ use Rattle.f77_ast.specs.declared.program.Listed.{Listed}
 use Rattle.f77_ast.specs.declared.program.Loop.{Loop}
 use Rattle.f77_ast.specs.declared.program.Program.{Program}
 use Rattle.f77_ast.specs.declared.program.Unit.{Unit as ProgramUnit}
-use Rattle.f77_ast.specs.declared.fault.Fault.TheVariants.{Subscript, ZeroIncrement, DoRange}
+use Rattle.f77_ast.specs.declared.fault.Fault.TheVariants.{ZeroIncrement, DoRange}
 use Rattle.f77_ast.specs.declared.specification.Bound.{Bound}
 use Rattle.f77_ast.specs.declared.stmt.LoopControl.{LoopControl}
 use Rattle.f77_ast.specs.declared.stmt.Stmt.{Stmt, Assign, Continue, Do, Print}
 use Rattle.f77_meaning.specs.Assign.{Written, written_of}
-use Rattle.f77_meaning.specs.Demand.{Demand, gives, wants, fails, and_then, located}
+use Rattle.f77_meaning.specs.Demand.{Demand, gives, wants, fails, and_then, located, unless_outside}
 use Rattle.f77_meaning.specs.Do.{Begun, Parameters, begun_of, begun_with, parameters_of, active_from, is_in_range, is_zero, count_of, has_64_bits, value_after}
 use Rattle.f77_structure.specs.Loops.{loop_with_range_from}
 use Rattle.f77_structure.specs.Statements.{terminal_label}
@@ -216,7 +216,7 @@ begun_numbers total variable m left rest begun within e = by (is_zero m.incremen
 begins_of : (layout : Layout) (unit : ℕ) (control : LoopControl) (answers rest : List ℤ) (begun : Begun) → IsStorage layout → begun_of layout unit control answers ≡ gives begun rest → Begins (length layout.first) begun
 begins_of layout unit control answers rest begun storage e = by (parameters_of layout unit control answers) e
   where
-    variable_by : (m : Parameters) (left : List ℤ) (entity : Entity) → entity_in layout.entities unit control.variable ≡ Some entity → (b : Bool) → is_scalar entity.bounds ≡ b → and_then (cond b (gives (start_of entity) left) (fails Subscript)) (λ variable more. begun_with variable m more) ≡ gives begun rest → Begins (length layout.first) begun
+    variable_by : (m : Parameters) (left : List ℤ) (entity : Entity) → entity_in layout.entities unit control.variable ≡ Some entity → (b : Bool) → is_scalar entity.bounds ≡ b → and_then (unless_outside (cond b (Some (start_of entity)) None) left) (λ variable more. begun_with variable m more) ≡ gives begun rest → Begins (length layout.first) begun
     variable_by m left entity h true scalar e =
         let lies : LiesIn (length layout.first) entity = entity_lies (length layout.first) layout.entities unit control.variable entity storage.lie h in
         begun_numbers (length layout.first) (start_of entity) m left rest begun (omega (arith, lies.within, one_unit entity scalar)) e

@@ -5,7 +5,7 @@ use Rattle.f77_ast.specs.declared.program.Listed.{Listed}
 use Rattle.f77_ast.specs.declared.program.Program.{Program}
 use Rattle.f77_ast.specs.declared.program.Unit.{Unit as ProgramUnit}
 use Rattle.f77_ast.specs.declared.stmt.Stmt.{Stmt, Print}
-use Rattle.f77_structure.specs.Resolves.{statement_resolves}
+use Rattle.f77_structure.specs.HasMeaning.{statement_has_meaning}
 use Rattle.f77_structure.specs.Storage.{IsStorage}
 use Rattle.f77_meaning.specs.Do.{has_64_bits, value_after}
 use Rattle.f77_structure.specs.Loops.{loops_of}
@@ -20,7 +20,7 @@ use Rattle.f77_meaning.specs.Step.{is_terminal}
 pub record IsSound (program : Program) : Type 0 where
   pub main : IsSome (slice_get program.units 0)
   pub ended : All (λ unit. EndsWithEnd unit.listing) program.units
-  pub resolved : (u : ℕ) (unit : ProgramUnit) → slice_get program.units u ≡ Some unit → All (λ listed. IsTrue (statement_resolves program.layout u listed.stmt)) unit.listing
+  pub meaning : (u : ℕ) (unit : ProgramUnit) → slice_get program.units u ≡ Some unit → All (λ listed. IsTrue (statement_has_meaning program.layout u listed.stmt)) unit.listing
   pub storage : IsStorage program.layout
   pub loops : program.loops ≡ loops_of program.units
   pub ranges : All (λ unit. RangesNest unit.listing) program.units

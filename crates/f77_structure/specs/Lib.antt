@@ -4,7 +4,7 @@ pub mod Labels
 pub mod Loops
 pub mod Needs
 pub mod Ranges
-pub mod Resolves
+pub mod HasMeaning
 pub mod Statements
 pub mod Storage
 pub mod Stretches

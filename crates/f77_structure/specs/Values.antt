@@ -155,3 +155,43 @@ binary_of op.And = on_truths (λ x y. yields (truth (x && y)))
 binary_of op.Or = on_truths (λ x y. yields (truth (x || y)))
 binary_of op.Eqv = on_truths (λ x y. yields (truth (are_equivalent x y)))
 binary_of op.Neqv = on_truths (λ x y. yields (truth (not (are_equivalent x y))))
+
+-- `+` and `-` before an operand (section 6.1.1)
+abbrev pub is_sign : Op → Bool
+is_sign op.Plus = true
+is_sign op.Neg = true
+is_sign op.Not = false
+is_sign op.Add = false
+is_sign op.Sub = false
+is_sign op.Mul = false
+is_sign op.Div = false
+is_sign op.Pow = false
+is_sign op.Cat = false
+is_sign (op.Rel relop) = false
+is_sign op.And = false
+is_sign op.Or = false
+is_sign op.Eqv = false
+is_sign op.Neqv = false
+
+-- `+`, `-`, `*`, `/` and `**` between two operands (section 6.1.1)
+abbrev pub is_arithmetic : Op → Bool
+is_arithmetic op.Plus = false
+is_arithmetic op.Neg = false
+is_arithmetic op.Not = false
+is_arithmetic op.Add = true
+is_arithmetic op.Sub = true
+is_arithmetic op.Mul = true
+is_arithmetic op.Div = true
+is_arithmetic op.Pow = true
+is_arithmetic op.Cat = false
+is_arithmetic (op.Rel relop) = false
+is_arithmetic op.And = false
+is_arithmetic op.Or = false
+is_arithmetic op.Eqv = false
+is_arithmetic op.Neqv = false
+
+-- whether a kind is INTEGER
+abbrev pub is_integer_kind : Kind → Bool
+is_integer_kind kind.Integer = true
+is_integer_kind kind.Logical = false
+is_integer_kind kind.Character = false
