@@ -13,8 +13,7 @@ use Rattle.f77_ast.specs.declared.expr.Part.{Part}
 use Rattle.f77_ast.specs.declared.expr.Ref.{Ref}
 use Rattle.f77_trees.specs.Same.{same_ref}
 use Rattle.hyb_base.specs.Wrap.{sum_of, difference_of, product_of}
-use Rattle.f77_structure.specs.Value.{number_of}
-use Rattle.f77_meaning.specs.Demand.{Demand, gives, wants, and_then, Evaluation, Located, Setting, demand_of, location_of, number_demand}
+use Rattle.f77_meaning.specs.Demand.{Demand, gives, wants, and_then, Evaluation, Located, Setting, demand_of, location_of, number_demand, number_of}
 
 -- whether an operator is one of a chain of `+` and `-`
 abbrev pub stands_in_sum : Op → Bool

@@ -3,8 +3,8 @@ use Rattle.std.specs.Prelude.{ℕ, ◌==◌, ◌||◌, ℤ, Bool, List, [], ◌�
 use Rattle.std.specs.List.{list_any}
 use Rattle.f77_ast.specs.declared.program.Listed.{Listed}
 use Rattle.f77_ast.specs.declared.program.Program.{Program}
-use Rattle.f77_structure.specs.Units.{listing_of, first_executable, main_of, statement_at, source_line}
-use Rattle.f77_structure.specs.Value.{Value}
+use Rattle.f77_structure.specs.Units.{listing_of, first_executable, main_unit, statement_at, source_line}
+use Rattle.f77_structure.specs.Values.{Value}
 
 -- what a dummy argument is bound to (section 15.9.3): to a place, by its first address, the number of the region of the
 -- actual argument, and the length of a character; to a value; or to a value that isn't known, of a character of this
@@ -136,7 +136,7 @@ listed_at program p = listed_of_last program p.frames
 -- the process before the first step: one frame, at the first executable statement of the main unit, wherever that is in the
 -- file
 abbrev pub first_frame : Program → Frame
-first_frame program = entering (main_of program.units) (first_executable (listing_of program.units (main_of program.units))) at_statement []
+first_frame program = entering (main_unit program.units) (first_executable (listing_of program.units (main_unit program.units))) at_statement []
 
 abbrev pub first_process : Program → Process
 first_process program = record { frames = first_frame program ∷ []; line = [] }

@@ -28,13 +28,18 @@ array_part part = tt
 
 -- only a reference is a name: one in parentheses, or with an operator, is none
 abbrev pub array_step : Expr-F (Option Entity) (Unit {0}) (Option Entity) → Option Entity
+array_step (layer.Int number) = None
+array_step (layer.Truth value) = None
+array_step (layer.Chars text) = None
 array_step (layer.Ref ref) = ref
-array_step _ = None
+array_step (layer.Unary op operand) = None
+array_step (layer.Binary op left right) = None
+array_step (layer.Paren inner) = None
 
 -- the array of a unit that an expression names as a whole: its name stands alone
 abbrev pub array_named : Layout → (unit : ℕ) → Expr → Option Entity
 array_named layout unit = fold-Expr (Option Entity) (Unit {0}) (Option Entity) array_step array_part (array_ref layout unit)
 
--- the same of a reference
+-- the array of a unit that a reference names as a whole
 abbrev pub array_of_ref : Layout → (unit : ℕ) → Ref → Option Entity
 array_of_ref layout unit = fold-Ref (Option Entity) (Unit {0}) (Option Entity) array_step array_part (array_ref layout unit)

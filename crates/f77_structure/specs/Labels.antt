@@ -22,10 +22,34 @@ distance_to label listing = position_or_len (has_label label) listing
 
 -- the labels to which GO TO, a computed GO TO or an arithmetic IF goes on
 abbrev pub gone_to : Stmt → List ℕ
+gone_to (stmt.Assign target value) = []
+gone_to (stmt.Do terminal control) = []
+gone_to stmt.Continue = []
+gone_to stmt.Return = []
+gone_to stmt.Else = []
+gone_to stmt.EndIf = []
+gone_to stmt.End = []
+gone_to (stmt.Stop code) = []
 gone_to (stmt.Goto label) = label ∷ []
 gone_to (stmt.ComputedGoto labels index) = labels
 gone_to (stmt.ArithmeticIf value negative zeroth positive) = negative ∷ zeroth ∷ positive ∷ []
-gone_to _ = []
+gone_to (stmt.LogicalIf' condition pointer inner) = []
+gone_to (stmt.BlockIf condition) = []
+gone_to (stmt.ElseIf condition) = []
+gone_to (stmt.Call name args) = []
+gone_to (stmt.Print items) = []
+gone_to (stmt.Read items) = []
+gone_to (stmt.Program name) = []
+gone_to (stmt.Subroutine name dummies) = []
+gone_to (stmt.Function typ name dummies) = []
+gone_to (stmt.Declare typ entities) = []
+gone_to (stmt.Dimension arrays) = []
+gone_to (stmt.Common groups) = []
+gone_to (stmt.Equivalence groups) = []
+gone_to (stmt.Parameter constants) = []
+gone_to (stmt.Implicit rules) = []
+gone_to (stmt.Save entries) = []
+gone_to (stmt.Init groups) = []
 
 -- the same, also where a logical IF holds the statement
 abbrev pub jumps_of : Stmt → List ℕ

@@ -4,9 +4,9 @@ pub mod Labels
 pub mod Loops
 pub mod Needs
 pub mod Ranges
-pub mod Resolves
+pub mod HasMeaning
 pub mod Statements
 pub mod Storage
 pub mod Stretches
 pub mod Units
-pub mod Value
+pub mod Values

@@ -36,7 +36,7 @@ name_of (first ∷ following) = header_name first.stmt
 
 -- the code of no statement
 abbrev pub no_code : Code
-no_code = record { instrs = []; starts = []; texts = [] }
+no_code = record { instrs = []; starts = []; texts = []; targets = []; nexts = [] }
 
 -- a unit of these statements, whose code isn't made yet
 abbrev pub unit_of : List Listed → ProgramUnit
@@ -90,7 +90,3 @@ statement_number units unit at = 1 + (statements_before units unit + at)
 -- the place of the main unit among some units; their number where there is none
 abbrev pub main_unit : List ProgramUnit → ℕ
 main_unit units = position_or_len (λ unit. is_main unit.listing) units
-
--- stand-in
-abbrev pub main_of : List ProgramUnit → ℕ
-main_of units = prefix_len (λ unit. not (is_main unit.listing)) units
