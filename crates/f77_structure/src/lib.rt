@@ -5,6 +5,7 @@
 //! them are here, each once.
 #![tactic(auto)]
 
+pub mod blocks;
 pub mod operators;
 pub mod statements;
 pub mod storage;
