@@ -6,6 +6,7 @@
 #![tactic(auto)]
 
 pub mod blocks;
+pub mod laws;
 pub mod operators;
 pub mod statements;
 pub mod storage;
