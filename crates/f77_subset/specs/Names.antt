@@ -1,8 +1,9 @@
 -- The names of statements: those that INTEGER declares, those that stand in the other statements, and that of PROGRAM.
-use Rattle.std.specs.Prelude.{ℕ, Bool, false, not, List, [], ◌∷◌, ◌++◌, map, filter, Option, None, Some, nat_eq}
+use Rattle.std.specs.Prelude.{ℕ, pos, Bool, false, not, List, [], ◌∷◌, ◌++◌, map, filter, Option, None, Some, nat_eq}
 use Rattle.std.specs.Cmp.Lexicographic.{pointwise}
 use Rattle.std.specs.List.{flat_map}
-use Rattle.f77_ast.specs.declared.expr.Expr.{Expr}
+use Rattle.f77_ast.specs.declared.expr.Expr.{Expr, Int}
+use Rattle.f77_ast.specs.declared.specification.Bound.{Bound}
 use Rattle.f77_ast.specs.declared.expr.Expr.TheOpen.{Expr-F, Part-F, Ref-F}
 use Rattle.f77_ast.specs.declared.expr.Expr.TheOpen as layer
 use Rattle.f77_ast.specs.declared.expr.Expr.TheFolds.{fold-Expr, fold-Ref}
@@ -97,9 +98,21 @@ mentioned_in (Do terminal control) = mentions_in_control control
 mentioned_in (Print items) = flat_map mentions_in_item items
 mentioned_in _ = []
 
+-- a bound as it is found out: the lower one is 1 where none is written (ANSI X3.9-1978, section 5.1.1.1)
+abbrev pub lower_or_one : Option Expr → Expr
+lower_or_one None = Int (pos 1)
+lower_or_one (Some low) = low
+
+abbrev pub found_bound : Bound → Bound
+found_bound bound = record { low = Some (lower_or_one bound.low); high = bound.high }
+
+-- a declared name, with its bounds as they are found out
+abbrev pub found_out : Declarator → Declarator
+found_out d = record { name = d.name; bounds = map found_bound d.bounds }
+
 -- the names, with their bounds, that INTEGER declares
 abbrev pub declared_in : Stmt → List Declarator
-declared_in (Declare typ entities) = map (λ entity. entity.declarator) entities
+declared_in (Declare typ entities) = map (λ entity. found_out entity.declarator) entities
 declared_in _ = []
 
 -- whether a statement is the PROGRAM statement of this name

@@ -3,7 +3,9 @@ use Rattle.std.specs.Prelude.{ℕ, ◌+◌, ◌||◌, not, List, [], ◌∷◌, 
 use Rattle.f77_ast.specs.declared.program.Listed.{Listed}
 use Rattle.f77_ast.specs.declared.program.Loop.{Loop}
 use Rattle.f77_ast.specs.declared.program.Unit.{Unit as ProgramUnit}
+use Rattle.f77_ast.specs.Refusal.{refusal_by}
 use Rattle.f77_ast.specs.declared.refusal.Refusal.{Refusal}
+use Rattle.f77_ast.specs.declared.rule.Rule.TheVariants.{LeftOut}
 use Rattle.f77_ast.specs.declared.stmt.Stmt.{Stmt, Do}
 use Rattle.f77_subset.specs.declared.pass.Pass.{Pass}
 use Rattle.f77_subset.specs.declared.pass.LoopsSoFar.{LoopsSoFar}
@@ -37,7 +39,7 @@ taken loops p s = if not (is_built s) || breaks p.running.ranges (p.statements +
 
 -- goes on with the pass, or refuses a line
 abbrev pub on_pass : Option Pass → (line : ℕ) → (Pass → Result Pass Refusal) → Result Pass Refusal
-on_pass None line go = Err (record { line = line; code = 21 })
+on_pass None line go = Err (refusal_by line LeftOut)
 on_pass (Some p) line go = go p
 
 -- some statements

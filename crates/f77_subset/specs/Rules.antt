@@ -4,6 +4,7 @@
 use Rattle.std.specs.Prelude.{ℕ, Bool, true, false, not, ◌&&◌, ◌||◌, nat_le, nat_eq, List, [], ◌∷◌, find, Option, None, Some}
 use Rattle.std.specs.Cmp.Lexicographic.{pointwise}
 use Rattle.std.specs.List.{list_all, list_any, flat_map}
+use Rattle.f77_ast.specs.Limits.{most_storage_units}
 use Rattle.f77_ast.specs.declared.expr.Ref.{out-Ref}
 use Rattle.f77_ast.specs.declared.program.Loop.{Loop}
 use Rattle.f77_ast.specs.declared.specification.Bound.{Bound}
@@ -15,10 +16,6 @@ use Rattle.f77_subset.specs.declared.mention.Standing.{Standing}
 use Rattle.f77_subset.specs.declared.mention.Standing.TheVariants.{Variable, Element, WholeItem}
 use Rattle.f77_subset.specs.Names.{mentioned_in, declared_in, is_program_of, is_of, names_of, declarations}
 use Rattle.f77_subset.specs.Storage.{total_units}
-
--- the greatest number of storage units
-abbrev pub storage_limit : ℕ
-storage_limit = 1000000
 
 -- whether a name begins with one of I to N, and so is INTEGER without a declaration (ANSI X3.9-1978, section 4.1.2)
 abbrev pub begins_integer : List ℕ → Bool
@@ -76,7 +73,7 @@ names_keep before s =
 
 -- whether there are no more storage units than there may be
 abbrev pub storage_keeps : List Stmt → Bool
-storage_keeps statements = nat_le (total_units (names_of statements)) storage_limit
+storage_keeps statements = nat_le (total_units (names_of statements)) most_storage_units
 
 -- the variables of the DO statements among some statements, in order
 abbrev pub do_variable : Stmt → List (List ℕ)

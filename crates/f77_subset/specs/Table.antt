@@ -14,8 +14,9 @@ use Rattle.f77_subset.specs.declared.broken.Broken.{Broken}
 use Rattle.f77_subset.specs.declared.broken.Broken.TheVariants.{Rule}
 use Rattle.f77_subset.specs.declared.mention.Mention.{Mention}
 use Rattle.f77_subset.specs.declared.table.Table.{Table}
-use Rattle.f77_subset.specs.Names.{mentioned_in, undeclared}
-use Rattle.f77_subset.specs.Rules.{storage_limit, begins_integer, are_bounds, may_stand}
+use Rattle.f77_subset.specs.Names.{mentioned_in, undeclared, found_out}
+use Rattle.f77_ast.specs.Limits.{most_storage_units}
+use Rattle.f77_subset.specs.Rules.{begins_integer, are_bounds, may_stand}
 use Rattle.f77_subset.specs.Storage.{total_units, entity_at, entities_from, regions_from}
 
 -- the table of names that appear in this order, behind PROGRAM statements of these names
@@ -42,7 +43,7 @@ behind t d = record {
 
 -- a name that is new takes its units behind the others, within the limit
 abbrev pub placed : Table → Declarator → Option Table
-placed t d = if nat_le 1 (storage_units_by d.bounds) && nat_le (t.total + storage_units_by d.bounds) storage_limit then Some (behind t d) else None
+placed t d = if nat_le 1 (storage_units_by d.bounds) && nat_le (t.total + storage_units_by d.bounds) most_storage_units then Some (behind t d) else None
 
 -- a declaration: of a new name
 abbrev pub declared_by : Table → Declarator → Option Table
@@ -51,7 +52,7 @@ declared_by t d = if is_some (entity_in t.entities 0 d.name) || is_program t d.n
 -- declarations, one after the other
 abbrev pub all_declared : Table → List TypedDeclarator → Option Table
 all_declared t [] = Some t
-all_declared t (d ∷ ds) = and_then (declared_by t d.declarator) (λ next. all_declared next ds)
+all_declared t (d ∷ ds) = and_then (declared_by t (found_out d.declarator)) (λ next. all_declared next ds)
 
 -- whether a name in another statement stands as it may: one that is there already, or a new one that needs no declaration
 abbrev pub stands_as : Option Entity → Mention → Bool

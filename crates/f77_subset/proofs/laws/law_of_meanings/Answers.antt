@@ -1,5 +1,5 @@
-use Rattle.f77_subset.proofs.Satisfies.{resolve_law}
-use Rattle.f77_subset.proofs.laws.law_of_references.Goals as goal
+use Rattle.f77_subset.proofs.Satisfies.{meaning_law}
+use Rattle.f77_subset.proofs.laws.law_of_meanings.Goals as goal
 
 pub returns : goal.returns
-returns c = resolve_law
+returns c = meaning_law
