@@ -1,4 +1,5 @@
 -- What every accepted file satisfies.
+use Rattle.f77_ast.specs.declared.rule.Rule.{Rule}
 use Rattle.f77_ast.specs.declared.rule.Rule.TheVariants.{DoNesting, DoubleLabel, IfNesting, JumpIntoRange, LabelMissing, SizeLimit, StatementOrder}
 use Rattle.std.proofs.Common.{◌≡◌, ◌≢◌, ℕ, zero, suc, ◌+◌, ◌<◌, ◌≤◌, Bool, true, false, not, ◌&&◌, ◌||◌, nat_lt, List, [], ◌∷◌, ◌++◌, map, length, drop, Option, None, Some, Ok, if◌then◌else◌, refl, sym, ap, ◌∙◌, subst, arith, slice_get, length-append}
 use Rattle.std.proofs.lemmas.Bool.Decides.{nat_tests}
@@ -62,17 +63,17 @@ pub kept_when : (b : Bool) (r : Refusal) → when b r ≡ [] → b ≡ false
 kept_when true r e = absurd cc
 kept_when false r e = refl
 
-kept : (code : ℕ) (rule : ℕ → Listed → List Listed → Bool) (place : ℕ) (unit : List Listed) → broken_by code rule place unit ≡ [] → (k : ℕ) (x : Listed) → slice_get unit k ≡ Some x → rule (place + k) x (drop (suc k) unit) ≡ false
-kept code rule place [] e k x h = absurd cc
-kept code rule place (y ∷ unit) e zero x h =
+kept : (rule : Rule) (breaking : ℕ → Listed → List Listed → Bool) (place : ℕ) (unit : List Listed) → broken_by rule breaking place unit ≡ [] → (k : ℕ) (x : Listed) → slice_get unit k ≡ Some x → breaking (place + k) x (drop (suc k) unit) ≡ false
+kept rule breaking place [] e k x h = absurd cc
+kept rule breaking place (y ∷ unit) e zero x h =
     let same : y ≡ x = cc in
-    let here : rule place y unit ≡ false = kept_when (rule place y unit) (at y code) (left_none (when (rule place y unit) (at y code)) (broken_by code rule (suc place) unit) e) in
+    let here : breaking place y unit ≡ false = kept_when (breaking place y unit) (at y rule) (left_none (when (breaking place y unit) (at y rule)) (broken_by rule breaking (suc place) unit) e) in
     let n : place + 0 ≡ place = omega arith in
-    ap (λ m. rule m x unit) n ∙ ap (λ z. rule place z unit) (sym same) ∙ here
-kept code rule place (y ∷ unit) e (suc k) x h =
-    let rest = kept code rule (suc place) unit (right_none (when (rule place y unit) (at y code)) (broken_by code rule (suc place) unit) e) k x h in
+    ap (λ m. breaking m x unit) n ∙ ap (λ z. breaking place z unit) (sym same) ∙ here
+kept rule breaking place (y ∷ unit) e (suc k) x h =
+    let rest = kept rule breaking (suc place) unit (right_none (when (breaking place y unit) (at y rule)) (broken_by rule breaking (suc place) unit) e) k x h in
     let n : place + suc k ≡ suc place + k = omega arith in
-    ap (λ m. rule m x (drop (suc k) unit)) n ∙ rest
+    ap (λ m. breaking m x (drop (suc k) unit)) n ∙ rest
 
 -- ---- labels
 

@@ -60,10 +60,10 @@ abbrev IsNoEnd : Listed → Type 0
 IsNoEnd listed = IsFalse (is_end listed.stmt)
 
 onto_ends : (x : Listed) (units : List (List Listed)) → IsNoEnd x → AllEnd units → units ≢ [] → AllEnd (onto_first x units)
-onto_ends x [] no ends some = absurd (some refl)
-onto_ends x (unit ∷ units) no ends some =
+onto_ends x [] other ends some = absurd (some refl)
+onto_ends x (unit ∷ units) other ends some =
     let e : EndsWithEnd unit = ends.0 in
-    (record { before = x ∷ e.before; last = e.last; joined = ap (λ l. x ∷ l) e.joined; nowhere_else = All-cons IsNoEnd x e.before no e.nowhere_else; is_end = e.is_end }, ends.1)
+    (record { before = x ∷ e.before; last = e.last; joined = ap (λ l. x ∷ l) e.joined; nowhere_else = All-cons IsNoEnd x e.before other e.nowhere_else; is_end = e.is_end }, ends.1)
 
 onto_some : (x : Listed) (units : List (List Listed)) → onto_first x units ≢ []
 onto_some x [] e = absurd cc

@@ -1,11 +1,12 @@
 -- The first of some refusals, rule by rule and statement by statement.
-use Rattle.std.proofs.Common.{◌≡◌, ℕ, suc, ◌+◌, ◌-◌, ◌<◌, ◌≤◌, Bool, true, false, List, [], ◌∷◌, ◌++◌, length, get_or, drop, Option, None, Some, if◌then◌else◌, refl, sym, ap, ◌∙◌, arith, add-one}
-use Rattle.std.proofs.lemmas.Bool.Decides.{nat_tests}
+use Rattle.std.proofs.Common.{◌≡◌, ℕ, suc, ◌+◌, ◌-◌, ◌<◌, ◌≤◌, Bool, List, ◌∷◌, ◌++◌, length, get_or, drop, Option, None, Some, if◌then◌else◌, sym, ap, ◌∙◌, arith, add-one}
 use Rattle.std.proofs.lemmas.List.{drop_more, drop_all}
 use Rattle.std.specs.List.{flat_map}
 use Rattle.f77_ast.specs.declared.program.Listed.{Listed}
 use Rattle.f77_ast.specs.declared.refusal.Refusal.{Refusal}
-use Rattle.f77_ast.specs.Refusal.{when, is_earlier, earlier_of, first_of, sooner}
+use Rattle.f77_ast.specs.Refusal.{first_of, sooner}
+use Rattle.f77_ast.specs.declared.rule.Rule.{Rule}
+use Rattle.f77_ast.proofs.Refusals.{sooner-none, sooner-assoc, first_of-append, first_of-when}
 use Rattle.f77_shape.specs.Breaks.{at, broken_by}
 
 -- ---- a rule, statement by statement

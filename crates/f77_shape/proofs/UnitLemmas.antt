@@ -1,15 +1,13 @@
 -- Main units, unit by unit.
 use Rattle.f77_ast.specs.declared.rule.Rule.TheVariants.{NoProgram}
-use Rattle.std.proofs.Common.{◌≡◌, ℕ, ◌+◌, ◌<◌, Bool, true, false, ◌&&◌, ◌||◌, List, [], ◌∷◌, ◌++◌, map, length, get_or, drop, Option, if◌then◌else◌, refl, sym, ap, ◌∙◌, append_assoc}
+use Rattle.std.proofs.Common.{◌≡◌, ℕ, ◌+◌, ◌<◌, Bool, true, false, ◌&&◌, ◌||◌, List, [], ◌∷◌, length, get_or, drop, Option, if◌then◌else◌, refl, sym, ap, ◌∙◌}
 use Rattle.std.proofs.lemmas.List.{drop_more}
 use Rattle.std.specs.List.{list_any}
-use Rattle.f77_ast.specs.declared.program.Listed.{Listed}
 use Rattle.f77_ast.specs.declared.program.Unit.{Unit as ProgramUnit}
 use Rattle.f77_ast.specs.declared.refusal.Refusal.{Refusal}
 use Rattle.f77_ast.specs.Refusal.{first_of, sooner}
 use Rattle.f77_shape.specs.Program.{first_refused, second_mains}
-use Rattle.f77_structure.specs.Statements.{is_end}
-use Rattle.f77_structure.specs.Units.{onto_first, cut, without_end, unit_of, is_main}
+use Rattle.f77_structure.specs.Units.{is_main}
 use Rattle.f77_ast.proofs.Refusals.{sooner-assoc, first_of-append}
 
 or_assoc : (a b c : Bool) → ((a || b) || c) ≡ (a || (b || c))

@@ -7,6 +7,7 @@ use Rattle.f77_ast.specs.Refusal.{refusal_by}
 use Rattle.f77_ast.specs.declared.refusal.Refusal.{Refusal}
 use Rattle.f77_ast.specs.declared.rule.Rule.TheVariants.{LeftOut}
 use Rattle.f77_ast.specs.declared.stmt.Stmt.{Stmt, Do}
+use Rattle.f77_ast.specs.declared.stmt.Stmt as stmt
 use Rattle.f77_subset.specs.declared.pass.Pass.{Pass}
 use Rattle.f77_subset.specs.declared.pass.LoopsSoFar.{LoopsSoFar}
 use Rattle.f77_subset.specs.declared.table.Table.{Table}
@@ -26,7 +27,33 @@ with_next (Some loop) running variable = record { ranges = with_loop running.ran
 -- the DO variables behind a statement
 abbrev pub followed : List Loop → LoopsSoFar → Stmt → LoopsSoFar
 followed loops running (Do terminal control) = with_next (slice_get loops running.loops) running control.variable
-followed loops running _ = running
+followed loops running (stmt.Assign target value) = running
+followed loops running stmt.Continue = running
+followed loops running stmt.Return = running
+followed loops running stmt.Else = running
+followed loops running stmt.EndIf = running
+followed loops running stmt.End = running
+followed loops running (stmt.Stop code) = running
+followed loops running (stmt.Goto label) = running
+followed loops running (stmt.ComputedGoto labels index) = running
+followed loops running (stmt.ArithmeticIf value negative zeroth positive) = running
+followed loops running (stmt.LogicalIf' condition pointer inner) = running
+followed loops running (stmt.BlockIf condition) = running
+followed loops running (stmt.ElseIf condition) = running
+followed loops running (stmt.Call name args) = running
+followed loops running (stmt.Print items) = running
+followed loops running (stmt.Read items) = running
+followed loops running (stmt.Program name) = running
+followed loops running (stmt.Subroutine name dummies) = running
+followed loops running (stmt.Function typ name dummies) = running
+followed loops running (stmt.Declare typ entities) = running
+followed loops running (stmt.Dimension arrays) = running
+followed loops running (stmt.Common groups) = running
+followed loops running (stmt.Equivalence groups) = running
+followed loops running (stmt.Parameter constants) = running
+followed loops running (stmt.Implicit rules) = running
+followed loops running (stmt.Save entries) = running
+followed loops running (stmt.Init groups) = running
 
 -- a statement more, where there is a table
 abbrev pub with_table : List Loop → Pass → Stmt → Option Table → Option Pass

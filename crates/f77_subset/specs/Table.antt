@@ -8,7 +8,8 @@ use Rattle.f77_ast.specs.declared.program.Entity.{Entity}
 use Rattle.f77_ast.specs.declared.program.Layout.{Layout}
 use Rattle.f77_ast.specs.declared.specification.Declarator.{Declarator}
 use Rattle.f77_ast.specs.declared.specification.TypedDeclarator.{TypedDeclarator}
-use Rattle.f77_ast.specs.declared.stmt.Stmt.{Stmt, Declare, Program}
+use Rattle.f77_ast.specs.declared.stmt.Stmt.{Stmt}
+use Rattle.f77_ast.specs.declared.stmt.Stmt as stmt
 use Rattle.f77_structure.specs.Storage.{storage_units_by}
 use Rattle.f77_subset.specs.declared.broken.Broken.{Broken}
 use Rattle.f77_subset.specs.declared.broken.Broken.TheVariants.{Rule}
@@ -79,11 +80,50 @@ all_mentioned t ms = if list_all (allows t) ms then all_appeared t ms else None
 abbrev pub with_program : Table → (name : List ℕ) → Table
 with_program t name = record { entities = t.entities; regions = t.regions; total = t.total; programs = t.programs ++ name ∷ [] }
 
+-- the names that a statement declares, or that it gives the program
+pub data Declares : Type 0 where
+  entities : (entities : List TypedDeclarator) → Declares
+  program : (name : List ℕ) → Declares
+  nothing : Declares
+
+abbrev pub declares : Stmt → Declares
+declares (stmt.Assign target value) = nothing
+declares (stmt.Do terminal control) = nothing
+declares stmt.Continue = nothing
+declares stmt.Return = nothing
+declares stmt.Else = nothing
+declares stmt.EndIf = nothing
+declares stmt.End = nothing
+declares (stmt.Stop code) = nothing
+declares (stmt.Goto label) = nothing
+declares (stmt.ComputedGoto labels index) = nothing
+declares (stmt.ArithmeticIf value negative zeroth positive) = nothing
+declares (stmt.LogicalIf' condition pointer inner) = nothing
+declares (stmt.BlockIf condition) = nothing
+declares (stmt.ElseIf condition) = nothing
+declares (stmt.Call name args) = nothing
+declares (stmt.Print items) = nothing
+declares (stmt.Read items) = nothing
+declares (stmt.Program name) = program name
+declares (stmt.Subroutine name dummies) = nothing
+declares (stmt.Function typ name dummies) = nothing
+declares (stmt.Declare typ declared) = entities declared
+declares (stmt.Dimension arrays) = nothing
+declares (stmt.Common groups) = nothing
+declares (stmt.Equivalence groups) = nothing
+declares (stmt.Parameter constants) = nothing
+declares (stmt.Implicit rules) = nothing
+declares (stmt.Save entries) = nothing
+declares (stmt.Init groups) = nothing
+
 -- a statement
+abbrev pub admitted_by : Table → Stmt → Declares → Option Table
+admitted_by t s (entities declared) = all_declared t declared
+admitted_by t s (program name) = Some (with_program t name)
+admitted_by t s nothing = all_mentioned t (mentioned_in s)
+
 abbrev pub admitted : Table → Stmt → Option Table
-admitted t (Declare typ entities) = all_declared t entities
-admitted t (Program name) = Some (with_program t name)
-admitted t s = all_mentioned t (mentioned_in s)
+admitted t s = admitted_by t s (declares s)
 
 -- the layout of a table: every unit opens as 0
 abbrev pub laid : Table → Layout

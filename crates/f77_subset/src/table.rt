@@ -215,7 +215,32 @@ impl Table {
                 self.programs.push(name.copy())?;
                 Ok(())
             }
-            _ => self.mention_all(alloc, stmt),
+            Stmt::Assign { .. } => self.mention_all(alloc, stmt),
+            Stmt::Do { .. } => self.mention_all(alloc, stmt),
+            Stmt::Continue => self.mention_all(alloc, stmt),
+            Stmt::Return => self.mention_all(alloc, stmt),
+            Stmt::Else => self.mention_all(alloc, stmt),
+            Stmt::EndIf => self.mention_all(alloc, stmt),
+            Stmt::End => self.mention_all(alloc, stmt),
+            Stmt::Stop(_) => self.mention_all(alloc, stmt),
+            Stmt::Goto(_) => self.mention_all(alloc, stmt),
+            Stmt::ComputedGoto { .. } => self.mention_all(alloc, stmt),
+            Stmt::ArithmeticIf { .. } => self.mention_all(alloc, stmt),
+            Stmt::LogicalIf { .. } => self.mention_all(alloc, stmt),
+            Stmt::BlockIf(_) => self.mention_all(alloc, stmt),
+            Stmt::ElseIf(_) => self.mention_all(alloc, stmt),
+            Stmt::Call { .. } => self.mention_all(alloc, stmt),
+            Stmt::Print(_) => self.mention_all(alloc, stmt),
+            Stmt::Read(_) => self.mention_all(alloc, stmt),
+            Stmt::Subroutine { .. } => self.mention_all(alloc, stmt),
+            Stmt::Function { .. } => self.mention_all(alloc, stmt),
+            Stmt::Dimension(_) => self.mention_all(alloc, stmt),
+            Stmt::Common(_) => self.mention_all(alloc, stmt),
+            Stmt::Equivalence(_) => self.mention_all(alloc, stmt),
+            Stmt::Parameter(_) => self.mention_all(alloc, stmt),
+            Stmt::Implicit(_) => self.mention_all(alloc, stmt),
+            Stmt::Save(_) => self.mention_all(alloc, stmt),
+            Stmt::Init(_) => self.mention_all(alloc, stmt),
         }
     }
 

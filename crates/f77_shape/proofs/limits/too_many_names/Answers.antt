@@ -1,5 +1,5 @@
 use Rattle.f77_ast.specs.Limits.{most_names}
-use Rattle.std.proofs.Common.{ℕ, List, take, min, sym, ap, subst, ◌∙◌}
+use Rattle.std.proofs.Common.{◌+◌, ℕ, List, take, min, sym, ap, subst, ◌∙◌}
 use Rattle.f77_ast.specs.declared.program.Listed.{Listed}
 use Rattle.f77_ast.specs.Refusal.{first_of}
 use Rattle.f77_shape.specs.Counts.{IsCounted}

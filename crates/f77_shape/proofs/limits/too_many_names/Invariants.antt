@@ -1,5 +1,5 @@
 use Rattle.f77_ast.specs.Limits.{most_names}
-use Rattle.std.proofs.Common.{◌≡◌, take, drop, min}
+use Rattle.std.proofs.Common.{◌+◌, ◌≡◌, take, drop, min}
 use Rattle.f77_ast.specs.Refusal.{first_of, sooner}
 use Rattle.f77_shape.specs.Limits.{name_breaks}
 use Rattle.f77_shape.proofs.CountLemmas.{all_counted}
