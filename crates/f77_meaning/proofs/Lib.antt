@@ -1,5 +1,5 @@
-pub mod Lines
-pub mod Room
+pub mod Begins
+pub mod Frames
 pub mod Runs
 pub mod Short
 pub mod Sound

@@ -1,66 +1,74 @@
--- A line of PRINT is no longer than a line may be.
-use Rattle.std.proofs.Common.{◌≡◌, ℕ, zero, suc, ◌+◌, ◌≤◌, ℤ, List, [], ◌∷◌, ◌++◌, length, Bool, true, false, Option, None, Some, refl, if◌then◌else◌, arith, length-append}
+-- The line of a PRINT isn't past its limit.
+use Rattle.std.proofs.Common.{◌≡◌, ℕ, ◌+◌, ◌≤◌, ℤ, List, [], ◌∷◌, ◌++◌, length, drop, Bool, true, false, Option, None, Some, refl, if◌then◌else◌, arith, length-append}
 use Rattle.std.proofs.lemmas.Bool.{leb-true}
-use Rattle.std.specs.Prelude.{nat_le}
-use Rattle.hyb_base.specs.Decimal.{decimal_of}
+use Rattle.std.specs.Prelude.{nat_le, nat_lt}
+use Rattle.f77_ast.specs.Limits.{most_line_bytes}
 use Rattle.f77_ast.specs.declared.program.Entity.{Entity}
-use Rattle.f77_ast.specs.declared.program.Layout.{Layout}
-use Rattle.f77_ast.specs.declared.fault.Fault.TheVariants.{LineLimit}
-use Rattle.f77_ast.specs.declared.stmt.Item.{Item, Plain}
+use Rattle.f77_ast.specs.declared.stmt.Item.{Item}
+use Rattle.f77_ast.specs.declared.stmt.Item as item
 use Rattle.f77_structure.specs.Arrays.{array_named}
-use Rattle.f77_meaning.specs.Demand.{Demand, gives, wants, fails, and_then, demand_of, Evaluation, unit_value}
-use Rattle.f77_meaning.specs.Print.{line_limit, with_item, with_value, after_units, array_or_value, or_blank, after_item, after_items, line_of_items}
 use Rattle.f77_structure.specs.Storage.{start_of, storage_units_of}
+use Rattle.f77_structure.specs.Values.{Value, value_of_units}
+use Rattle.f77_meaning.specs.Demand.{Demand, gives, wants, calls, fails, demand_of, Setting}
+use Rattle.f77_meaning.specs.Print.{Printing, Printed, asks, enters, whole, stops, text_of, with_text, or_blank, next_item, next_cell, within_limit, after_value, ask_element, after_elements, after_array_or_value, after_item, after_items, printed_of}
+use Rattle.f77_meaning.specs.Process.{Frame}
 
--- a line that was made is no longer than a line may be
-abbrev pub IsShort : Demand (List ℕ) → Type 0
-IsShort (gives line rest) = length line ≤ line_limit
-IsShort (wants address) = Unit {0}
-IsShort (fails fault) = Unit {0}
+-- a line that was made isn't past its limit
+abbrev pub IsShort : Printed → Type 0
+IsShort (asks address by p) = length p.line ≤ most_line_bytes
+IsShort (enters unit bindings p) = Unit {0}
+IsShort (whole line) = length line ≤ most_line_bytes
+IsShort (stops fault) = Unit {0}
 
--- what goes on with a short line, and makes a short line of it, makes a short line
-then_short : (go : List ℕ → List ℤ → Demand (List ℕ)) (d : Demand (List ℕ)) → ((line : List ℕ) (rest : List ℤ) → length line ≤ line_limit → IsShort (go line rest)) → IsShort d → IsShort (and_then d go)
-then_short go (gives line rest) h s = h line rest s
-then_short go (wants address) h s = tt
-then_short go (fails fault) h s = tt
+-- what goes on from a short line makes a short line
+abbrev GoesShort : (Printing → Printed) → Type 0
+GoesShort go = (p : Printing) → length p.line ≤ most_line_bytes → IsShort (go p)
 
-with_item_short : (line text : List ℕ) (rest : List ℤ) → IsShort (with_item line text rest)
-with_item_short line text rest = by (nat_le (length line + (1 + length text)) line_limit) refl
+-- a line with a text more is short, and so is what goes on from it
+text_short : (line text : List ℕ) (go : List ℕ → Printed) → ((more : List ℕ) → length more ≤ most_line_bytes → IsShort (go more)) → IsShort (within_limit (with_text line text) go)
+text_short line text go h = by (nat_le (length line + (1 + length text)) most_line_bytes) refl
   where
-    by : (fits : Bool) → nat_le (length line + (1 + length text)) line_limit ≡ fits → IsShort (if fits then gives (line ++ (32 ∷ text)) rest else fails LineLimit)
+    by : (fits : Bool) → nat_le (length line + (1 + length text)) most_line_bytes ≡ fits → IsShort (within_limit (if fits then Some (line ++ (32 ∷ text)) else None) go)
     by true e =
-        let h : length line + (1 + length text) ≤ line_limit = leb-true (length line + (1 + length text)) line_limit e in
-        omega (arith, length-append line (32 ∷ text))
+        let few : length line + (1 + length text) ≤ most_line_bytes = leb-true (length line + (1 + length text)) most_line_bytes e in
+        h (line ++ (32 ∷ text)) (omega (arith, few, length-append line (32 ∷ text)))
     by false e = tt
 
-with_value_short : (line : List ℕ) (d : Demand ℤ) → IsShort (with_value line d)
-with_value_short line (gives value rest) = with_item_short line (decimal_of value) rest
-with_value_short line (wants address) = tt
-with_value_short line (fails fault) = tt
+value_short : (d : Demand Value) (p : Printing) (go : Printing → Printed) → GoesShort go → length p.line ≤ most_line_bytes → IsShort (after_value d p go)
+value_short (gives value rest) p go h few = text_short p.line (text_of value) (λ line. go (next_item p line)) (λ more fits. h (next_item p more) fits)
+value_short (wants address by) p go h few = few
+value_short (calls unit bindings) p go h few = tt
+value_short (fails fault) p go h few = tt
 
-units_short : (address count : ℕ) (line : List ℕ) (answers : List ℤ) → length line ≤ line_limit → IsShort (after_units address count line answers)
-units_short address zero line answers h = h
-units_short address (suc count) line answers h =
-    then_short (after_units (address + 1) count) (with_value line (unit_value address answers)) (units_short (address + 1) count) (with_value_short line (unit_value address answers))
+element_short : (array : Entity) (p : Printing) (go : Printing → Printed) → GoesShort go → length p.line ≤ most_line_bytes → IsShort (ask_element array p go)
+element_short array p go h few = by (nat_lt p.cells (storage_units_of array))
+  where
+    by : (left : Bool) → IsShort (if left then asks (start_of array + p.cells) None p else go (next_item p p.line))
+    by true = few
+    by false = h (next_item p p.line) few
 
-array_or_value_short : (o : Option Entity) (value : Evaluation) (line : List ℕ) (answers : List ℤ) → length line ≤ line_limit → IsShort (array_or_value o value line answers)
-array_or_value_short (Some array) value line answers h = units_short (start_of array) (storage_units_of array) line answers h
-array_or_value_short None value line answers h = with_value_short line (value answers)
+elements_short : (array : Entity) (answers : List ℤ) (p : Printing) (go : Printing → Printed) → GoesShort go → length p.line ≤ most_line_bytes → IsShort (after_elements array answers p go)
+elements_short array [] p go h few = element_short array p go h few
+elements_short array (value ∷ rest) p go h few =
+    text_short p.line (text_of (value_of_units array.kind (value ∷ []))) (λ line. ask_element array (next_cell p line) go) (λ more fits. element_short array (next_cell p more) go h fits)
 
-item_short : (layout : Layout) (unit : ℕ) (item : Item) (line : List ℕ) (answers : List ℤ) → length line ≤ line_limit → IsShort (after_item layout unit item line answers)
-item_short layout unit (Plain expr) line answers h = array_or_value_short (array_named layout unit expr) (demand_of layout unit expr) line answers h
-item_short layout unit _ line answers h = h
+array_or_value_short : (o : Option Entity) (value : List ℤ → Demand Value) (p : Printing) (go : Printing → Printed) → GoesShort go → length p.line ≤ most_line_bytes → IsShort (after_array_or_value o value p go)
+array_or_value_short (Some array) value p go h few = elements_short array p.answers p go h few
+array_or_value_short None value p go h few = value_short (value p.answers) p go h few
 
-items_short : (layout : Layout) (unit : ℕ) (items : List Item) (line : List ℕ) (answers : List ℤ) → length line ≤ line_limit → IsShort (after_items layout unit items line answers)
-items_short layout unit [] line answers h = h
-items_short layout unit (item ∷ items) line answers h =
-    then_short (after_items layout unit items) (after_item layout unit item line answers) (items_short layout unit items) (item_short layout unit item line answers h)
+item_short : (s : Setting) (i : Item) (p : Printing) (go : Printing → Printed) → GoesShort go → length p.line ≤ most_line_bytes → IsShort (after_item s i p go)
+item_short s (item.Plain expr) p go h few = array_or_value_short (array_named s.layout s.unit expr) (demand_of s expr) p go h few
+item_short s (item.Implied' items rest control) p go h few = h (next_item p p.line) few
 
-or_blank_short : (line : List ℕ) → length line ≤ line_limit → length (or_blank line) ≤ line_limit
+or_blank_short : (line : List ℕ) → length line ≤ most_line_bytes → length (or_blank line) ≤ most_line_bytes
 or_blank_short [] h = omega arith
 or_blank_short (byte ∷ bytes) h = h
 
--- the line of a PRINT
-pub line_short : (layout : Layout) (unit : ℕ) (items : List Item) (answers : List ℤ) → IsShort (line_of_items layout unit items answers)
-line_short layout unit items answers =
-    then_short (λ line rest. gives (or_blank line) rest) (after_items layout unit items [] answers) (λ line rest h. or_blank_short line h) (items_short layout unit items [] answers (omega arith))
+items_short : (s : Setting) (items : List Item) (p : Printing) → length p.line ≤ most_line_bytes → IsShort (after_items s items p)
+items_short s [] p few = or_blank_short p.line few
+items_short s (first ∷ items) p few = item_short s first p (after_items s items) (λ q h. items_short s items q h) few
+
+-- the line of a PRINT that goes on from a short one
+pub printed_short : (s : Setting) (items : List Item) (frame : Frame) (line : List ℕ) → length line ≤ most_line_bytes → IsShort (printed_of s items frame line)
+printed_short s items frame line few =
+    items_short s (drop frame.items items) (record { items = frame.items; cells = frame.cells; answers = frame.answers; line = line }) few
