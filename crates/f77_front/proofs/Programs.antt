@@ -19,6 +19,7 @@ use Rattle.f77_shape.proofs.Accepted.{ranges_nest, files_are_small}
 use Rattle.f77_shape.proofs.AcceptedUnits.{units_end, one_main}
 use Rattle.f77_shape.specs.Laws.{HasOneMain}
 use Rattle.f77_shape.specs.Shape.{shape_of}
+use Rattle.f77_structure.proofs.UnitLemmas.{main_is_there}
 use Rattle.f77_structure.specs.Statements.{begins_subprogram}
 use Rattle.f77_subset.proofs.Satisfies.{built_law, laid_out_law, meaning_law, storage_law}
 use Rattle.f77_subset.specs.Built.{is_built}
@@ -79,9 +80,10 @@ all_mean units layout (main, is) means u unit e = by u (sym (ap (λ us. slice_ge
 pub program_sound : (statements : List Listed) (units : List ProgramUnit) (layout : Layout) → shape_of statements ≡ Ok units → subset_of (loops_of units) units ≡ Ok layout → IsSound (program_with units layout)
 program_sound statements units layout shape subset =
     let small = files_are_small statements units shape in
-    let one = one_unit units (one_main statements units shape) (built_law (loops_of units) units layout subset) in
+    let mains = one_main statements units shape in
+    let one = one_unit units mains (built_law (loops_of units) units layout subset) in
     record {
-      main = subst (λ us. IsSome (slice_get us 0)) (sym one.1) refl;
+      main = main_is_there units mains.place mains.unit mains.stands mains.main;
       ended = units_end statements units shape;
       meaning = all_mean units layout one (meaning_law (loops_of units) units layout subset);
       storage = storage_law (loops_of units) units layout subset;

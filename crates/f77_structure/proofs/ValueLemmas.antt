@@ -1,6 +1,5 @@
 -- Values in cells, and operators on numbers.
-use Rattle.std.proofs.Common.{◌≡◌, ℕ, suc, ◌<◌, ℤ, pos, Bool, true, false, List, [], ◌∷◌, map, Option, None, Some, All, refl, ap, ◌∙◌, arith}
-use Rattle.f77_ast.specs.declared.expr.Op.{Op}
+use Rattle.std.proofs.Common.{◌≡◌, ℕ, suc, ◌<◌, ℤ, pos, true, false, List, [], ◌∷◌, map, Option, None, Some, All, refl, ap, arith}
 use Rattle.f77_ast.specs.declared.expr.Op.TheVariants as op
 use Rattle.hyb_base.specs.Wrap.{quotient_of, power_of}
 use Rattle.f77_structure.specs.Laws.{WrittenValuesAreRead, IsNumeric, SignsAreNumeric, ArithmeticIsNumeric}

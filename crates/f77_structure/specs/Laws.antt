@@ -1,5 +1,5 @@
 -- Laws of values and of the operators on them.
-use Rattle.std.specs.Prelude.{◌≡◌, ℕ, ◌<◌, ℤ, true, All}
+use Rattle.std.specs.Prelude.{◌≡◌, ◌<◌, ℤ, true, All}
 use Rattle.f77_ast.specs.declared.expr.Op.{Op}
 use Rattle.f77_structure.specs.Values.{Value, integer, truth, chars, kind_of, value_of_units, units_of_value, Operated, yields, breaks, means_nothing, unary_of, binary_of, is_sign, is_arithmetic}
 
