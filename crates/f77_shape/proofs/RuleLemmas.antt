@@ -1,11 +1,11 @@
 -- What the rules on labels, order and block IFs need of the loops over a unit.
-use Rattle.std.proofs.Common.{◌≡◌, ℕ, suc, ◌+◌, ◌-◌, ◌<◌, ◌≤◌, max, Bool, ◌||◌, nat_lt, List, [], ◌∷◌, ◌++◌, length, get_or, take, drop, Option, None, Some, if◌then◌else◌, refl, sym, ap, ◌∙◌, arith}
+use Rattle.std.proofs.Common.{◌≡◌, ℕ, ◌+◌, ◌-◌, ◌<◌, ◌≤◌, max, Bool, ◌||◌, nat_lt, List, [], ◌∷◌, ◌++◌, length, get_or, take, drop, Option, None, Some, refl, sym, ap, ◌∙◌, arith}
 use Rattle.std.proofs.lemmas.Bool.Decides.{nat_tests}
 use Rattle.std.proofs.lemmas.List.{drop_more, take_more}
 use Rattle.std.proofs.lemmas.List.Folds.{list_any_more}
 use Rattle.std.specs.List.{list_any}
 use Rattle.f77_ast.specs.declared.program.Listed.{Listed}
-use Rattle.f77_structure.specs.Labels.{is_label, has_label, target_from, has_any}
+use Rattle.f77_structure.specs.Labels.{is_label, has_any}
 use Rattle.f77_shape.specs.Blocks.{opened_by, open_after, open_at, ends_count, ends_in}
 use Rattle.f77_shape.specs.Tables.{is_seen}
 
@@ -24,18 +24,6 @@ pub below_max : (a b c : ℕ) → (nat_lt a b || nat_lt a c) ≡ nat_lt a (max b
 below_max a b c = grind (arith, nat_tests)
 
 -- ---- labels
-
--- the target of a label from one statement before
-pub target_back : (unit : List Listed) (place label : ℕ) (listed : Listed) → 0 < place → place ≤ length unit → listed ≡ get_or unit (place - 1) listed → target_from (place - 1) label (drop (place - 1) unit) ≡ (if has_label label listed then Some (place - 1) else target_from place label (drop place unit))
-target_back unit place label listed some within stands =
-    ap (target_from (place - 1) label) (drop_more unit (place - 1) listed (omega arith) ∙ ap (λ x. x ∷ drop (place - 1 + 1) unit) (sym stands) ∙ ap (λ n. listed ∷ drop n unit) back)
-    ∙ ap (λ n. if has_label label listed then Some (place - 1) else target_from n label (drop place unit)) next
-  where
-    back : place - 1 + 1 ≡ place
-    back = omega arith
-
-    next : suc (place - 1) ≡ place
-    next = omega arith
 
 -- a label that may be there is among those that were seen
 pub seen_is_any : (seen : ℕ → Bool) (label : Option ℕ) (listing : List Listed) → ((q : ℕ) → seen q ≡ list_any (λ other. is_label q other.card.label) listing) → is_seen seen label ≡ has_any label listing

@@ -1,5 +1,9 @@
+pub mod CutLemmas
 pub mod ItemLemmas
+pub mod LabelLemmas
 pub mod LoopLemmas
 pub mod Loops
 pub mod Rising
+pub mod StorageLemmas
 pub mod UnitLemmas
+pub mod ValueLemmas

@@ -1,12 +1,14 @@
 pub mod Arrays
 pub mod Blocks
 pub mod Labels
+pub mod Laws
 pub mod Loops
 pub mod Needs
 pub mod Ranges
 pub mod HasMeaning
 pub mod Statements
 pub mod Storage
+pub mod Targets
 pub mod Stretches
 pub mod Units
 pub mod Values

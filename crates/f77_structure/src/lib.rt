@@ -5,4 +5,11 @@
 //! them are here, each once.
 #![tactic(auto)]
 
+pub mod blocks;
+pub mod laws;
+pub mod operators;
+pub mod statements;
+pub mod storage;
 pub mod stretches;
+pub mod targets;
+pub mod units;
