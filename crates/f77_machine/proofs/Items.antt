@@ -5,7 +5,7 @@ use Rattle.hyb_base.specs.Decimal.{decimal_of, IsTextOf}
 use Rattle.hyb_base.proofs.Decimals.{reads_back}
 use Rattle.f77_meaning.specs.Demand.{Demand, and_then, unit_value}
 use Rattle.f77_meaning.specs.Print.{line_limit, after_units, with_value}
-use Rattle.f77_machine.specs.Line.{IsPastLimit}
+use Rattle.f77_io.specs.Line.{IsPastLimit}
 
 -- the text of a number isn't empty
 text_holds : (z : ℤ) (text : List ℕ) → IsTextOf z text → 1 ≤ length text

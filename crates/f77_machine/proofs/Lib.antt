@@ -5,5 +5,4 @@ pub mod Counts
 pub mod Entities
 pub mod Halves
 pub mod Items
-pub mod Numbers
 pub mod Steps

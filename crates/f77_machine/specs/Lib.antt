@@ -2,10 +2,7 @@ pub mod Active
 pub mod Evaluated
 pub mod Begun
 pub mod Chain
-pub mod Input
-pub mod Line
 pub mod Loops
-pub mod Number
 pub mod Print
 pub mod Process
 pub mod Reads

@@ -5,14 +5,14 @@ ghost use Rattle.f77_meaning.specs.Demand.{demand_of, unit_value};
 ghost use Rattle.f77_meaning.specs.Print.{after_item, after_items, line_of_items, or_blank, after_units, with_item, with_value};
 ghost use Rattle.f77_meaning.specs.Storage.{IsStorage};
 ghost use Rattle.f77_machine.specs.Evaluated.{Asks};
-ghost use Rattle.f77_machine.specs.Line.{text_of};
+ghost use Rattle.f77_io.specs.Line.{text_of};
 ghost use Rattle.f77_machine.specs.Print.{as_line, HasGrown};
 ghost use Rattle.f77_machine.specs.Reads.{item_reads, items_reads, most_elements, reads_in};
 
 use crate::array::array_named;
 use crate::demand::{demand, unit_value};
 use crate::evaluated::Evaluated;
-use crate::line::Line;
+use f77_io::line::Line;
 use crate::place::{start, storage_units};
 use f77_ast::expr::Expr;
 use f77_ast::program::Layout;

@@ -9,8 +9,8 @@ use crate::active::ActiveLoop;
 use crate::assign::assigned;
 use crate::begin::begin;
 use crate::evaluated::Evaluated;
-use crate::input::Input;
-use crate::line::Line;
+use f77_io::input::Input;
+use f77_io::line::Line;
 use crate::loops::loop_of_do;
 use crate::print::print_line;
 use crate::reads::room_for;
@@ -66,8 +66,8 @@ impl Process {
     ghost use Rattle.f77_meaning.specs.Storage.{IsStorage};
     ghost use Rattle.f77_ast.specs.declared.step.Stepped.TheVariants.{Inner};
     ghost use Rattle.f77_machine.specs.Active.{actives_of, InnermostNumbersFit};
-    ghost use Rattle.f77_machine.specs.Input.{left_of};
-    ghost use Rattle.f77_machine.specs.Line.{text_of};
+    ghost use Rattle.f77_io.specs.Input.{left_of};
+    ghost use Rattle.f77_io.specs.Line.{text_of};
     ghost use Rattle.f77_machine.specs.Process.{process_of, HasLoopRoom, IsProcessOf, KeepsPlace};
     ghost use Rattle.f77_machine.specs.Reads.{statement_reads, control_reads, items_reads, subscript_reads, reads_in};
 

@@ -1,6 +1,6 @@
 use Rattle.std.proofs.Common.{◌≡◌, ◌+◌, ◌≤◌, length, drop}
 use Rattle.f77_meaning.specs.Print.{after_items}
-use Rattle.f77_machine.specs.Line.{text_of}
+use Rattle.f77_io.specs.Line.{text_of}
 use Rattle.f77_machine.specs.Reads.{items_reads}
 use Rattle.f77_machine.proofs.print.print_items.Given as goal
 

@@ -1,6 +1,6 @@
 use Rattle.std.proofs.Common.{◌+◌, ◌≤◌, length, sym, ◌∙◌, arith}
 use Rattle.f77_meaning.specs.Demand.{gives}
-use Rattle.f77_machine.specs.Line.{text_of}
+use Rattle.f77_io.specs.Line.{text_of}
 use Rattle.f77_machine.proofs.Items.{units_go_on}
 use Rattle.f77_machine.proofs.print.print_units.Goals as goal
 

@@ -1,6 +1,6 @@
 use Rattle.std.proofs.Common.{◌≡◌, ◌+◌, ◌-◌, ◌*◌, ◌≤◌, length}
 use Rattle.f77_meaning.specs.Print.{after_units}
-use Rattle.f77_machine.specs.Line.{text_of}
+use Rattle.f77_io.specs.Line.{text_of}
 use Rattle.f77_machine.proofs.print.print_units.Given as goal
 
 -- what the units that are left come to is what all of them come to, and the others took a value each and two bytes or more

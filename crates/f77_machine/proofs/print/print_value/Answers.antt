@@ -1,6 +1,6 @@
 use Rattle.std.proofs.Common.{sym, subst, to_z, of_z, w64, FitsSigned}
 use Rattle.std.proofs.lemmas.Int.{to_z-of_z}
-use Rattle.f77_machine.specs.Line.{text_of}
+use Rattle.f77_io.specs.Line.{text_of}
 use Rattle.f77_machine.proofs.Items.{grown_by}
 use Rattle.f77_machine.proofs.print.print_value.Goals as goal
 

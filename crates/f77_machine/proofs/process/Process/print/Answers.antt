@@ -2,7 +2,7 @@ use Rattle.std.proofs.Common.{◌∙◌, ap, sym}
 use Rattle.f77_meaning.specs.StepOutcome.{outcome_by}
 use Rattle.f77_meaning.specs.Print.{line_of_items}
 use Rattle.f77_meaning.specs.Step.{past_statement, print_event}
-use Rattle.f77_machine.specs.Line.{text_of}
+use Rattle.f77_io.specs.Line.{text_of}
 use Rattle.f77_machine.specs.Active.{actives_of}
 use Rattle.f77_machine.specs.Process.{process_of}
 use Rattle.f77_machine.proofs.process.Process.print.Goals as goal

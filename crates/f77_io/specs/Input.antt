@@ -1,6 +1,6 @@
 -- The input of READ.
 use Rattle.std.specs.Prelude.{ℕ, List, drop}
-use Rattle.f77_machine.specs.declared.input.Input.{Input}
+use Rattle.f77_io.specs.declared.input.Input.{Input}
 
 -- the bytes of an input that have not been read
 abbrev pub left_of : Input → List ℕ

@@ -1,7 +1,7 @@
 use Rattle.std.proofs.Common.{◌≡◌, ◌+◌, drop}
 use Rattle.std.specs.List.{prefix_len}
-use Rattle.f77_machine.specs.Number.{is_separator}
-use Rattle.f77_machine.proofs.number.separators.Given as goal
+use Rattle.f77_io.specs.Number.{is_separator}
+use Rattle.f77_io.proofs.number.separators.Given as goal
 
 -- what is counted so far, and what is left to count
 abbrev pub invariant-loop-i : goal.invariant-loop-i

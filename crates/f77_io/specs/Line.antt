@@ -1,7 +1,10 @@
 -- The line that PRINT builds.
 use Rattle.std.specs.Prelude.{ℕ, ◌+◌, ◌<◌, Bool, true, false, List, [], ◌∷◌, length}
-use Rattle.f77_meaning.specs.Print.{line_limit}
-use Rattle.f77_machine.specs.declared.line.Line.{Line}
+use Rattle.f77_io.specs.declared.line.Line.{Line}
+
+-- the greatest number of bytes of a line
+abbrev pub line_limit : ℕ
+line_limit = 10000
 
 -- the bytes of a line
 abbrev pub text_of : Line → List ℕ

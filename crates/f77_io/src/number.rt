@@ -1,7 +1,7 @@
 //! Numbers of an input, and what is between them.
 ghost use Rattle.std.specs.Prelude.{◌≡◌, ◌≤◌, length, SomeIff};
 ghost use Rattle.std.specs.List.{prefix_len, position_or_len};
-ghost use Rattle.f77_machine.specs.Number.{is_separator, IsNumber, number_of};
+ghost use Rattle.f77_io.specs.Number.{is_separator, IsNumber, number_of};
 
 /// Whether a byte is a blank, a comma, a CR or an LF.
 fn is_separator(byte: u8) -> bool

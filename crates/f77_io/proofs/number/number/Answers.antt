@@ -1,5 +1,5 @@
-use Rattle.f77_machine.proofs.Numbers.{number_by_parse, IsUtf8-from_number}
-use Rattle.f77_machine.proofs.number.number.Goals as goal
+use Rattle.f77_io.proofs.Numbers.{number_by_parse, IsUtf8-from_number}
+use Rattle.f77_io.proofs.number.number.Goals as goal
 
 pub returns-in-Ok : goal.returns-in-Ok
 returns-in-Ok c = rw c.ok.ensures.value (number_by_parse c.args.word.now c.parse.result (rw c.in-Ok.ensures.cases.0 at c.parse.ensures.value.0))

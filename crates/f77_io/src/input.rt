@@ -18,8 +18,8 @@ pub struct Input {
 impl Input {
     ghost use Rattle.std.specs.Prelude.{◌≡◌, ◌≢◌, ◌↔◌, ◌⊎◌, [], Err, IfOk, IfErr, OnErr};
     ghost use Rattle.f77_ast.specs.declared.fault.Fault.TheVariants.{InputEnd, InputForm};
-    ghost use Rattle.f77_machine.specs.Input.{left_of};
-    ghost use Rattle.f77_machine.specs.Number.{IsNumber, number_of, after_separators, word_at, after_word};
+    ghost use Rattle.f77_io.specs.Input.{left_of};
+    ghost use Rattle.f77_io.specs.Number.{IsNumber, number_of, after_separators, word_at, after_word, taken_by, taken_of, TestsNumbers};
 
     /// An input of which nothing has been read.
     pub fn new(bytes: Bytes) -> Input
@@ -32,7 +32,8 @@ impl Input {
     /// of these or the end.
     ///
     /// `InputEnd` exactly where nothing else is left, and `InputForm` exactly where what comes next is no such number
-    /// or does not fit 64 bits; nothing has been read then.
+    /// or does not fit 64 bits; nothing has been read then. So what it answers and leaves is `taken_of` what is left.
+    #[tactic(auto, using(crate::proofs::Tests::is_number_decides))]
     pub fn next_number(&mut self) -> Result<i64, Fault>
         ensures ok { IfOk result (λ v. IsNumber (word_at (after_separators (left_of self.old)))
             × (v ≡ number_of (word_at (after_separators (left_of self.old))))
@@ -41,6 +42,8 @@ impl Input {
         ensures end { (result ≡ Err InputEnd) ↔ (after_separators (left_of self.old) ≡ []) }
         ensures form { (result ≡ Err InputForm) ↔ (after_separators (left_of self.old) ≢ []) × ¬ (IsNumber (word_at (after_separators (left_of self.old)))) }
         ensures fault { IfErr result (λ fault. (fault ≡ InputEnd) ⊎ (fault ≡ InputForm)) }
+        ensures test { TestsNumbers }
+        ensures taken { taken_by result (left_of self.new) ≡ taken_of (left_of self.old) }
     {
         let left = &self.bytes.as_slice()[self.at..];
         let start = separators(left);

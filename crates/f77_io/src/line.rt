@@ -17,10 +17,10 @@ pub struct Line {
 }
 
 impl Line {
-    ghost use Rattle.std.specs.Prelude.{◌≡◌, ◌≤◌, ◌↔◌, [], ◌∷◌, ◌++◌, length, IfOk, IfErr, OnOk, OnErr, IsErr};
+    ghost use Rattle.std.specs.Prelude.{◌≡◌, ◌≤◌, ◌↔◌, [], ◌∷◌, ◌++◌, length, take, IfOk, IfErr, OnOk, OnErr, IsErr};
     ghost use Rattle.hyb_base.specs.Decimal.{decimal_of};
     ghost use Rattle.f77_ast.specs.declared.fault.Fault.TheVariants.{LineLimit};
-    ghost use Rattle.f77_machine.specs.Line.{text_of, IsPastLimit, logical_text};
+    ghost use Rattle.f77_io.specs.Line.{text_of, IsPastLimit, logical_text};
 
     /// An empty line.
     pub fn new(alloc: Global) -> Result<Line, NoMemory>
@@ -94,6 +94,21 @@ impl Line {
         ensures { result.now ≡ text_of self.now }
     {
         self.bytes.as_slice()
+    }
+
+    /// The number of its bytes.
+    pub fn len(&self) -> usize
+        ensures { result ≡ length (text_of self.now) }
+    {
+        self.bytes.len()
+    }
+
+    /// Cuts it back to its first `count` bytes.
+    pub fn truncate(&mut self, count: usize)
+        requires { count ≤ length (text_of self.old) }
+        ensures { text_of self.new ≡ take count (text_of self.old) }
+    {
+        self.bytes.truncate(count);
     }
 
     /// Makes it an empty line.

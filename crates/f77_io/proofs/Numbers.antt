@@ -14,7 +14,7 @@ use Rattle.std.proofs.lemmas.Str.Ascii.{IsAscii-cons}
 use Rattle.std.proofs.lemmas.Fmt.{IsAscii-from_digits}
 use Rattle.hyb_base.proofs.Decimals.{numerals, IsUtf8-from_digits}
 use Rattle.hyb_base.specs.Decimal.{IsDigits, value_of}
-use Rattle.f77_machine.specs.Number.{IsNumber, number_of}
+use Rattle.f77_io.specs.Number.{IsNumber, number_of}
 
 -- a number from 0 on fits where it is below 2 ^ 63
 fits_pos : (n : ℕ) → n < 2 ^ 63 → FitsSigned w64 (pos n)
