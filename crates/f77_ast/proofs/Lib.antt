@@ -1,2 +1,3 @@
 pub mod EntityLemmas
 pub mod Loops
+pub mod Refusals

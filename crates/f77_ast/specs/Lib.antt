@@ -1,4 +1,6 @@
 pub mod Entity
 pub mod Fault
+pub mod Limits
 pub mod Loop
 pub mod Name
+pub mod Refusal

@@ -2,7 +2,7 @@
 ghost use Rattle.std.specs.Prelude.{◌≡◌};
 
 use crate::name::Name;
-use crate::program::Entity;
+use crate::program::{Entity, Place};
 use hyb_base::no_memory::NoMemory;
 use indexmap::IndexMap;
 use std::alloc::Global;
@@ -41,9 +41,9 @@ impl Model for Entities {
 }
 
 impl Entities {
-    ghost use Rattle.std.specs.Prelude.{◌++◌, ◌∷◌, [], ◌↔◌, length, slice_get, None, OnOk, OnErr, IsTrue};
+    ghost use Rattle.std.specs.Prelude.{◌++◌, ◌∷◌, [], ◌↔◌, ◌<◌, length, slice_get, None, OnOk, OnErr, IfSome, IsTrue};
     ghost use Rattle.std.specs.Option.{option_copied};
-    ghost use Rattle.f77_ast.specs.Entity.{entity_in};
+    ghost use Rattle.f77_ast.specs.Entity.{entity_in, number_in, placed_at};
 
     /// No entity. It takes no memory.
     pub fn new(alloc: Global) -> Entities
@@ -77,6 +77,29 @@ impl Entities {
             name: name.copy(),
         };
         self.entries.get(&key)
+    }
+
+    /// The number of the entity of a name in a unit, its place from 0: none exactly where the unit has none of that name.
+    /// It takes constant time.
+    pub fn number_of(&self, unit: u32, name: &Name) -> Option<usize>
+        ensures value { result ≡ number_in self.now unit name.now }
+        ensures within { IfSome result (λ number. number < length self.now) }
+        ensures entity { IfSome result (λ number. slice_get self.now number ≡ entity_in self.now unit name.now) }
+    {
+        let key = EntityKey {
+            unit,
+            name: name.copy(),
+        };
+        self.entries.get_index_of(&key)
+    }
+
+    /// Gives an entity, by its number, another place. All others stay as they are. It takes no memory.
+    pub fn set_place(&mut self, number: usize, place: Place)
+        requires { number < length self.old }
+        ensures { self.new ≡ placed_at self.old number place }
+    {
+        let (_key, entity) = self.entries.pair_mut(number);
+        entity.place = place;
     }
 
     /// The entity at a place, counted from 0: none exactly where `place >= len`.

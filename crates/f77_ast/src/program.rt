@@ -47,7 +47,7 @@ pub enum Place {
     Stored(u32),
     /// A dummy argument: its place, from 0, among the unit's dummies.
     Dummy(u32),
-    /// Nowhere, a named constant: its value, a constant expression.
+    /// Nowhere, a named constant: its value as a literal, an `Int` of either sign, a `Truth` or a `Chars`.
     Constant(Expr),
 }
 
@@ -64,7 +64,8 @@ pub struct Entity {
     /// Its length in storage units: 1 for INTEGER and LOGICAL, the number of characters for CHARACTER, and 0 for a
     /// length `(*)` or one that is refused.
     pub len: u32,
-    /// Its dimensions.
+    /// Its dimensions. Those of a dummy argument are the trees of its declaration. Of all else both bounds of each
+    /// dimension are numbers, an `Int` of either sign, the lower one 1 where none is written.
     pub bounds: Bounds,
     /// Where it is.
     pub place: Place,

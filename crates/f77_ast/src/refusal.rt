@@ -1,6 +1,8 @@
 //! Why a program is refused.
 ghost use Rattle.std.specs.Prelude.{◌≡◌};
+ghost use Rattle.f77_ast.specs.Refusal.{refusal_by, is_earlier, earlier_of, sooner, FirstRefusalIsEarliest, FirstOfBothIsSooner};
 
+use crate::rule::Rule;
 use hyb_base::no_memory::NoMemory;
 use std::alloc::{AllocError, AllocFailed};
 use thiserror::Error;
@@ -14,6 +16,57 @@ pub struct Refusal {
     /// The code of the rule that is broken.
     pub code: u8,
 }
+
+impl Refusal {
+    /// The refusal of a line by a rule.
+    pub fn new(line: u32, rule: Rule) -> Refusal
+        ensures { result ≡ refusal_by line rule }
+    {
+        Refusal {
+            line,
+            code: rule.code(),
+        }
+    }
+
+    /// Whether it is of an earlier line than another, or of the same line and a lesser code.
+    pub fn is_earlier(self, other: Refusal) -> bool
+        ensures { result ≡ is_earlier self other }
+    {
+        self.line < other.line || (self.line == other.line && self.code < other.code)
+    }
+}
+
+/// The earlier of two refusals that may be there; of two alike the first.
+pub fn sooner(one: Option<Refusal>, other: Option<Refusal>) -> Option<Refusal>
+    ensures { result ≡ sooner one other }
+{
+    match (one, other) {
+        (None, _) => other,
+        (Some(_), None) => one,
+        (Some(first), Some(second)) => Some(earlier(first, second)),
+    }
+}
+
+/// The earlier of two refusals.
+fn earlier(first: Refusal, second: Refusal) -> Refusal
+    ensures { result ≡ earlier_of first (Some second) }
+{
+    if second.is_earlier(first) {
+        second
+    } else {
+        first
+    }
+}
+
+/// A law: the first of some refusals is one of them, and none of them is earlier.
+pub fn law_of_first_refusals()
+    ensures { FirstRefusalIsEarliest }
+{}
+
+/// A law: the first refusal of two lists, one after the other, is the sooner one of their first ones.
+pub fn law_of_sooner_refusals()
+    ensures { FirstOfBothIsSooner }
+{}
 
 /// Why the text of a program gives no tree or table.
 #[derive(Clone, Copy, Debug, PartialEq, Eq, Error)]
