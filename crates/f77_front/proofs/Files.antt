@@ -9,7 +9,7 @@ use Rattle.f77_cards.specs.Cards.{cards_of}
 use Rattle.f77_front.proofs.Listings.{listing_spelled, spelled_listing}
 use Rattle.f77_front.specs.Accepted.{IsAccepted}
 use Rattle.f77_front.specs.Front.{and_then, listing_of, unless_refused, program_with, program_of, units_of, front_of}
-use Rattle.f77_meaning.specs.Loops.{loops_of}
+use Rattle.f77_structure.specs.Loops.{loops_of}
 use Rattle.f77_operands.specs.Limit.{operand_refusal}
 use Rattle.f77_shape.specs.Shape.{shape_of}
 use Rattle.f77_subset.specs.Subset.{subset_of}

@@ -10,15 +10,16 @@ use Rattle.f77_ast.specs.declared.stmt.Stmt.{Stmt}
 use Rattle.f77_ast.specs.declared.stmt.Stmt as stmt
 use Rattle.f77_front.proofs.Files.{program_made, units_made, accepted_of}
 use Rattle.f77_front.specs.Front.{program_with, program_of, units_of, front_of}
-use Rattle.f77_meaning.specs.Loops.{loops_of, statement_count}
-use Rattle.f77_meaning.specs.Resolves.{statement_resolves}
+use Rattle.f77_structure.specs.Loops.{loops_of}
+use Rattle.f77_structure.specs.Units.{statement_count, is_main}
+use Rattle.f77_structure.specs.Resolves.{statement_resolves}
 use Rattle.f77_meaning.specs.Sound.{IsSound}
-use Rattle.f77_meaning.specs.Storage.{IsLaidOut}
+use Rattle.f77_structure.specs.Storage.{IsLaidOut}
 use Rattle.f77_shape.proofs.Accepted.{ranges_nest, files_are_small}
 use Rattle.f77_shape.proofs.AcceptedUnits.{units_end, one_main}
 use Rattle.f77_shape.specs.Laws.{HasOneMain}
 use Rattle.f77_shape.specs.Shape.{shape_of}
-use Rattle.f77_shape.specs.Units.{begins_subprogram, is_main}
+use Rattle.f77_structure.specs.Statements.{begins_subprogram}
 use Rattle.f77_subset.proofs.Satisfies.{built_law, laid_out_law, resolve_law, storage_law}
 use Rattle.f77_subset.specs.Built.{is_built}
 use Rattle.f77_subset.specs.Subset.{listing_of, subset_of}

@@ -9,7 +9,7 @@ use Rattle.f77_ast.specs.declared.program.Unit.{Unit as ProgramUnit}
 use Rattle.f77_ast.specs.declared.refusal.Refusal.{Refusal}
 use Rattle.f77_ast.specs.declared.stmt.Stmt.{Stmt}
 use Rattle.f77_cards.specs.Cards.{cards_of}
-use Rattle.f77_meaning.specs.Loops.{loops_of}
+use Rattle.f77_structure.specs.Loops.{loops_of}
 use Rattle.f77_operands.specs.Limit.{operand_refusal}
 use Rattle.f77_shape.specs.Shape.{shape_of}
 use Rattle.f77_stmts.specs.Cause.{code_of}

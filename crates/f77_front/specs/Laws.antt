@@ -1,7 +1,7 @@
 -- What every accepted file satisfies.
 use Rattle.std.specs.Prelude.{◌≡◌, ◌↔◌, ℕ, List, Ok}
 use Rattle.f77_ast.specs.declared.program.Program.{Program}
-use Rattle.f77_meaning.specs.Storage.{IsLaidOut}
+use Rattle.f77_structure.specs.Storage.{IsLaidOut}
 use Rattle.f77_front.specs.Accepted.{IsAccepted}
 use Rattle.f77_front.specs.Front.{front_of}
 

@@ -2,7 +2,7 @@
 ghost use Rattle.std.specs.Prelude.{◌≡◌, ◌+◌, ◌<◌, ◌^◌, length, Ok, Err, IfOk, IsErrOf};
 ghost use Rattle.f77_ast.specs.declared.refusal.Refusal.{Refusal};
 ghost use Rattle.f77_front.specs.Front.{unless_refused, units_of, program_of};
-ghost use Rattle.f77_meaning.specs.Loops.{statement_count};
+ghost use Rattle.f77_structure.specs.Units.{statement_count};
 
 use f77_ast::program::{Listing, Program, Units};
 use f77_ast::refusal::{FrontError, Refusal};

@@ -9,7 +9,8 @@ use Rattle.f77_loops.specs.declared.following.Following.{Following}
 use Rattle.f77_loops.specs.declared.ranges.Range.{Range}
 use Rattle.f77_loops.specs.Following.{number_at, last_by, is_closed_to, range_by, Knows}
 use Rattle.f77_loops.specs.Ranges.{range_from, ranges_in, barrier_in}
-use Rattle.f77_meaning.specs.Loops.{terminal_label, has_label, distance_to, is_barrier}
+use Rattle.f77_structure.specs.Labels.{has_label, distance_to}
+use Rattle.f77_structure.specs.Statements.{terminal_label, is_barrier}
 
 -- ---- closed loops
 

@@ -4,7 +4,7 @@ use Rattle.f77_ast.specs.declared.program.Listed.{Listed}
 use Rattle.f77_ast.specs.declared.program.Loop.{Loop}
 use Rattle.f77_loops.specs.declared.ranges.Range.{Range}
 use Rattle.f77_loops.specs.Ranges.{ranges_in}
-use Rattle.f77_meaning.specs.Loops.{loops_in}
+use Rattle.f77_structure.specs.Loops.{loops_in}
 
 -- some ranges are those of these statements of a unit, the last one's first
 pub record AreRangesOf (number : ℕ) (listing : List Listed) (ranges : List Range) : Type 0 where

@@ -7,7 +7,7 @@ use Rattle.f77_loops.specs.declared.following.Following.{Following}
 use Rattle.f77_loops.specs.declared.labels.Labels.{Labels}
 use Rattle.f77_loops.specs.declared.ranges.Range.{Range}
 use Rattle.f77_loops.specs.Ranges.{ranges_in, barrier_in}
-use Rattle.f77_meaning.specs.Loops.{distance_to}
+use Rattle.f77_structure.specs.Labels.{distance_to}
 
 -- the number that is noted for a label
 abbrev pub number_at : Labels → (label : ℕ) → Option ℕ

@@ -5,7 +5,8 @@ use Rattle.std.specs.Option.{option_map_or}
 use Rattle.f77_ast.specs.declared.program.Listed.{Listed}
 use Rattle.f77_ast.specs.declared.program.Loop.{Loop}
 use Rattle.f77_loops.specs.declared.ranges.Range.{Range}
-use Rattle.f77_meaning.specs.Loops.{terminal_label, distance_to, is_barrier}
+use Rattle.f77_structure.specs.Labels.{distance_to}
+use Rattle.f77_structure.specs.Statements.{terminal_label, is_barrier}
 
 -- the range of a DO statement, which is statement `number` of the file: these statements follow it in its unit
 abbrev pub range_from : (number label : ℕ) → List Listed → Range

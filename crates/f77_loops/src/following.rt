@@ -2,7 +2,7 @@
 ghost use Rattle.std.specs.Prelude.{◌≡◌, ◌+◌, ◌∷◌, [], ◌++◌, OnOk, List, if◌then◌else◌};
 ghost use Rattle.std.specs.Option.{option_map, option_to_list};
 ghost use Rattle.f77_ast.specs.declared.program.Listed.{Listed};
-ghost use Rattle.f77_meaning.specs.Loops.{terminal_label, is_barrier};
+ghost use Rattle.f77_structure.specs.Statements.{terminal_label, is_barrier};
 ghost use Rattle.f77_loops.specs.Following.{last_by, is_closed_to, range_by, Knows};
 
 use crate::labels::{Labels, no_labels, note, number_of};

@@ -1,6 +1,6 @@
 //! A table of labels.
 ghost use Rattle.std.specs.Prelude.{◌≡◌, ℕ, None, Some, OnOk, if◌then◌else◌};
-ghost use Rattle.f77_meaning.specs.Loops.{has_label};
+ghost use Rattle.f77_structure.specs.Labels.{has_label};
 ghost use Rattle.f77_loops.specs.Following.{number_at};
 
 use crate::statements::is_executable;

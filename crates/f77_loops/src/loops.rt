@@ -1,7 +1,8 @@
 //! The DO-loops of a file.
 ghost use Rattle.std.specs.Prelude.{◌≡◌, ◌+◌, ◌^◌, ◌<◌, ◌∷◌, [], ◌++◌, length, List, IfOk, OnOk};
 ghost use Rattle.f77_ast.specs.Loop.{IsNumbered};
-ghost use Rattle.f77_meaning.specs.Loops.{loops_in, loops_of, statement_count};
+ghost use Rattle.f77_structure.specs.Loops.{loops_in, loops_of};
+ghost use Rattle.f77_structure.specs.Units.{statement_count};
 ghost use Rattle.f77_loops.specs.Ranges.{loop_with};
 ghost use Rattle.f77_loops.specs.Adding.{AreRangesOf, IsAdded};
 ghost use Rattle.f77_ast.specs.declared.program.Listed.{Listed};

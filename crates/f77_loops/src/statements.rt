@@ -1,7 +1,6 @@
 //! What the loops of a file ask of a single statement.
 ghost use Rattle.std.specs.Prelude.{◌≡◌};
-ghost use Rattle.f77_meaning.specs.Loops.{terminal_label, is_barrier};
-ghost use Rattle.f77_meaning.specs.Process.{is_executable};
+ghost use Rattle.f77_structure.specs.Statements.{terminal_label, is_barrier, is_executable};
 
 use f77_ast::stmt::{Label, Stmt};
 

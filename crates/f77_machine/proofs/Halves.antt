@@ -2,8 +2,8 @@
 use Rattle.std.proofs.Common.{◌≡◌, ℕ, zero, suc, ◌<◌, ◌≤◌, ◌==◌, Bool, true, false, cond, List, [], ◌∷◌, None, Some, refl, ap, subst, ◌∙◌, arith, slice_get}
 use Rattle.std.proofs.lemmas.Option.{get_or_from_slice_get, slice_get_within}
 use Rattle.f77_ast.specs.declared.program.Loop.{Loop}
-use Rattle.f77_meaning.specs.Loops.{loop_with_range_from, StartInOrder}
-use Rattle.f77_meaning.proofs.Rising.{none_earlier}
+use Rattle.f77_structure.specs.Loops.{loop_with_range_from, StartInOrder}
+use Rattle.f77_structure.proofs.Rising.{none_earlier}
 use Rattle.f77_machine.specs.Loops.{begins_at, IsFirstFrom}
 
 -- the loop that begins with a statement is looked for at the first place at which none begins before

@@ -6,12 +6,13 @@ use Rattle.f77_ast.specs.declared.program.Program.{Program}
 use Rattle.f77_ast.specs.declared.program.Unit.{Unit as ProgramUnit}
 use Rattle.f77_ast.specs.declared.stmt.Stmt.{Stmt, Do}
 use Rattle.f77_meaning.specs.Event.{Event}
-use Rattle.f77_meaning.specs.Loops.{statement_number, terminal_label}
+use Rattle.f77_structure.specs.Statements.{terminal_label}
+use Rattle.f77_structure.specs.Units.{statement_number, listing_of}
 use Rattle.f77_meaning.specs.Process as meaning
-use Rattle.f77_meaning.specs.Process.{listed_at, listing_of}
+use Rattle.f77_meaning.specs.Process.{listed_at}
 use Rattle.f77_meaning.specs.Sound.{IsOf, IsSound}
 use Rattle.f77_meaning.specs.Step.{after_listed, after_statement, event, event_at, increment_event, past_increment, once_done, resumed_by, statement_event}
-use Rattle.f77_meaning.proofs.Rising.{counted_in}
+use Rattle.f77_structure.proofs.Rising.{counted_in}
 use Rattle.f77_meaning.proofs.Room.{fewer_active, no_more_active}
 use Rattle.f77_meaning.proofs.Stands.{IsOf-resumed}
 use Rattle.f77_machine.specs.Active.{actives_of}

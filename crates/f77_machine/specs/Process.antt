@@ -5,7 +5,8 @@ use Rattle.f77_ast.specs.declared.stmt.Stmt.{Stmt, Do}
 use Rattle.f77_machine.specs.Active.{actives_of}
 use Rattle.f77_machine.specs.Reads.{HasRoom}
 use Rattle.f77_machine.specs.declared.process.Process.{Process}
-use Rattle.f77_meaning.specs.Process.{listed_at, source_line}
+use Rattle.f77_structure.specs.Units.{source_line}
+use Rattle.f77_meaning.specs.Process.{listed_at}
 use Rattle.f77_meaning.specs.Process as meaning
 use Rattle.f77_meaning.specs.Sound.{IsOf}
 

@@ -13,8 +13,8 @@ use Rattle.f77_ast.specs.declared.program.Unit.{Unit as ProgramUnit}
 use Rattle.f77_ast.specs.declared.stmt.Item.{Item, Plain}
 use Rattle.f77_ast.specs.declared.stmt.LoopControl.{LoopControl}
 use Rattle.f77_ast.specs.declared.stmt.Stmt.{Stmt, Assign, Do, Print}
-use Rattle.f77_meaning.specs.Arrays.{array_named}
-use Rattle.f77_meaning.specs.Storage.{storage_units_of}
+use Rattle.f77_structure.specs.Arrays.{array_named}
+use Rattle.f77_structure.specs.Storage.{storage_units_of}
 
 -- one level: each reference reads one unit, after what its subscripts read
 abbrev pub reads_step : Expr-F ℕ (Unit {0}) ℕ → ℕ

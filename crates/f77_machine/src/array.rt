@@ -1,8 +1,8 @@
 //! An array's name without subscripts (ANSI X3.9-1978, section 5.6).
 ghost use Rattle.std.specs.Prelude.{◌≡◌, ◌+◌, ◌≤◌, ◌^◌, IfSome, length};
 ghost use Rattle.std.specs.Option.{option_copied};
-ghost use Rattle.f77_meaning.specs.Arrays.{array_named, array_of_ref, if_array};
-ghost use Rattle.f77_meaning.specs.Storage.{IsStorage, LiesIn};
+ghost use Rattle.f77_structure.specs.Arrays.{array_named, array_of_ref, if_array};
+ghost use Rattle.f77_structure.specs.Storage.{IsStorage, LiesIn};
 
 use crate::place::entity;
 use f77_ast::expr::{Expr, Ref};

@@ -3,7 +3,7 @@ ghost use Rattle.std.specs.Prelude.{◌≡◌, ◌+◌, ◌<◌, ℤ, IsTrue, So
 ghost use Rattle.std.specs.Option.{option_map};
 ghost use Rattle.f77_meaning.specs.Assign.{Accumulation, accumulated, plainly, written_of, accumulation_of};
 ghost use Rattle.f77_meaning.specs.Demand.{demand_of};
-ghost use Rattle.f77_meaning.specs.Storage.{IsStorage};
+ghost use Rattle.f77_structure.specs.Storage.{IsStorage};
 ghost use Rattle.f77_machine.specs.Evaluated.{as_demand, Asks, GivesWriteBelow};
 ghost use Rattle.f77_machine.specs.Chain.{accumulation_at};
 ghost use Rattle.f77_machine.specs.Reads.{reads_in, subscript_reads};

@@ -2,7 +2,7 @@
 ghost use Rattle.std.specs.Prelude.{◌≡◌, ◌+◌, length};
 ghost use Rattle.f77_meaning.specs.Demand.{and_then, located};
 ghost use Rattle.f77_meaning.specs.Do.{begun_of, begun_with, increment_of};
-ghost use Rattle.f77_meaning.specs.Storage.{IsStorage};
+ghost use Rattle.f77_structure.specs.Storage.{IsStorage};
 ghost use Rattle.f77_ast.specs.Entity.{entity_in};
 ghost use Rattle.f77_machine.specs.Evaluated.{as_demand, Asks, GivesAddressBelow};
 ghost use Rattle.f77_machine.specs.Begun.{begun_demand, as_parameters, GivesVariableBelow};

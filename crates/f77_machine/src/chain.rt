@@ -3,7 +3,7 @@ ghost use Rattle.std.specs.Prelude.{◌≡◌, ◌+◌, ◌≤◌, ℕ, suc, IsT
 ghost use Rattle.std.specs.Option.{option_map};
 ghost use Rattle.f77_meaning.specs.Assign.{stands_in_sum, stands_in_product, is_commutative, is_v, joined_by, accumulation_last, chain_of, last_by, accumulation_of, operation_of, operators_at_left};
 ghost use Rattle.f77_meaning.specs.Demand.{and_then, demand_of};
-ghost use Rattle.f77_meaning.specs.Storage.{IsStorage};
+ghost use Rattle.f77_structure.specs.Storage.{IsStorage};
 ghost use Rattle.f77_machine.specs.Evaluated.{as_demand, Asks};
 ghost use Rattle.f77_machine.specs.Chain.{as_operation, stands_in, accumulation_at, with_operand};
 ghost use Rattle.f77_machine.specs.Reads.{reads_in};

@@ -2,7 +2,7 @@
 ghost use Rattle.std.specs.Prelude.{◌≡◌, ◌+◌, ◌<◌, ◌≤◌, ◌^◌, Some, map, length};
 ghost use Rattle.std.specs.Option.{option_map};
 ghost use Rattle.f77_meaning.specs.Demand.{demand_of, location_of, located, unit_value, unary_of, binary_of, unless_zero_divisor};
-ghost use Rattle.f77_meaning.specs.Storage.{IsStorage, LiesIn};
+ghost use Rattle.f77_structure.specs.Storage.{IsStorage, LiesIn};
 ghost use Rattle.f77_machine.specs.Evaluated.{as_demand, Asks, GivesAddressBelow};
 ghost use Rattle.f77_machine.specs.Reads.{reads_in, args_reads, subscript_reads};
 

@@ -1,7 +1,8 @@
 //! The loops of a program, found by their DO statements (ANSI X3.9-1978, section 11.10).
 ghost use Rattle.std.specs.Prelude.{◌≡◌, ◌+◌, ◌<◌, ◌≤◌, ◌^◌};
 ghost use Rattle.std.specs.Option.{option_copied};
-ghost use Rattle.f77_meaning.specs.Loops.{StartInOrder, loop_with_range_from, statement_number, statements_before, statement_count};
+ghost use Rattle.f77_structure.specs.Loops.{StartInOrder, loop_with_range_from};
+ghost use Rattle.f77_structure.specs.Units.{statement_number, statements_before, statement_count};
 ghost use Rattle.f77_meaning.specs.Sound.{IsSound};
 ghost use Rattle.f77_meaning.specs.Step.{loop_of_do};
 ghost use Rattle.f77_machine.specs.Loops.{begins_at, IsFirstFrom};

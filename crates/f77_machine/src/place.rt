@@ -3,7 +3,7 @@ ghost use Rattle.std.specs.Prelude.{◌≡◌, ◌+◌, ◌<◌, ◌≤◌, ◌^
 ghost use Rattle.std.specs.Option.{option_copied};
 ghost use Rattle.f77_ast.specs.Entity.{entity_in};
 ghost use Rattle.f77_meaning.specs.Demand.{element_address, offset_of, variable_address};
-ghost use Rattle.f77_meaning.specs.Storage.{IsStorage, LiesIn, start_of, storage_units_of, vector_extent, upper_of};
+ghost use Rattle.f77_structure.specs.Storage.{IsStorage, LiesIn, start_of, storage_units_of, vector_extent, upper_of};
 ghost use Rattle.f77_machine.specs.Evaluated.{as_demand, Asks, GivesAddressBelow};
 
 use crate::evaluated::Evaluated;

@@ -3,7 +3,7 @@ ghost use Rattle.std.specs.Prelude.{◌≡◌, ◌+◌, ◌≤◌, ◌^◌, min,
 ghost use Rattle.hyb_base.specs.Decimal.{decimal_of};
 ghost use Rattle.f77_meaning.specs.Demand.{demand_of, unit_value};
 ghost use Rattle.f77_meaning.specs.Print.{after_item, after_items, line_of_items, or_blank, after_units, with_item, with_value};
-ghost use Rattle.f77_meaning.specs.Storage.{IsStorage};
+ghost use Rattle.f77_structure.specs.Storage.{IsStorage};
 ghost use Rattle.f77_machine.specs.Evaluated.{Asks};
 ghost use Rattle.f77_io.specs.Line.{text_of};
 ghost use Rattle.f77_machine.specs.Print.{as_line, HasGrown};

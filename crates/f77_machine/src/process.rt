@@ -1,7 +1,9 @@
 //! Processes: one step at a time through the statements of a program.
 ghost use Rattle.std.specs.Prelude.{◌≡◌, ◌+◌, ◌^◌, ◌<◌, ◌≤◌, OnSome, slice_get, vec_capacity};
 ghost use Rattle.std.specs.Option.{option_and_then, option_copied};
-ghost use Rattle.f77_meaning.specs.Process.{statement_at, source_line, first_executable, entry_of, is_executable};
+ghost use Rattle.f77_structure.specs.Statements.{is_executable};
+ghost use Rattle.f77_structure.specs.Units.{statement_at, source_line, first_executable};
+ghost use Rattle.f77_meaning.specs.Process.{entry_of};
 
 mod control;
 
@@ -58,12 +60,12 @@ impl Process {
     ghost use Rattle.f77_meaning.specs.StepOutcome.{outcome_of_step, outcome_by, outcome_from};
     ghost use Rattle.f77_meaning.specs.Print.{line_of_items};
     ghost use Rattle.f77_meaning.specs.Do.{begun_of};
-    ghost use Rattle.f77_meaning.specs.Loops.{statement_number};
+    ghost use Rattle.f77_structure.specs.Units.{statement_number};
     ghost use Rattle.f77_meaning.specs.Process.{first_process, listed_at};
     ghost use Rattle.f77_meaning.specs.Process as meaning;
     ghost use Rattle.f77_meaning.specs.Sound.{IsSound, Fits, IsLineOf, IsClearFor};
     ghost use Rattle.f77_meaning.specs.Step.{after_begun, after_statement, past_statement, do_event, increment_event, past_increment, loop_of_do, print_event, write_event, statement_event};
-    ghost use Rattle.f77_meaning.specs.Storage.{IsStorage};
+    ghost use Rattle.f77_structure.specs.Storage.{IsStorage};
     ghost use Rattle.f77_ast.specs.declared.step.Stepped.TheVariants.{Inner};
     ghost use Rattle.f77_machine.specs.Active.{actives_of, InnermostNumbersFit};
     ghost use Rattle.f77_io.specs.Input.{left_of};

@@ -1,6 +1,6 @@
 //! How many units the statements of a program read at most.
 ghost use Rattle.std.specs.Prelude.{◌≡◌, ◌≤◌, IfSome};
-ghost use Rattle.f77_meaning.specs.Storage.{IsStorage};
+ghost use Rattle.f77_structure.specs.Storage.{IsStorage};
 ghost use Rattle.f77_machine.specs.Reads.{reads_in, subscript_reads, item_reads, items_reads, increment_reads, control_reads, statement_reads, AllHaveRoom, HasRoom};
 
 use crate::array::array_named;

@@ -6,9 +6,11 @@ use Rattle.f77_ast.specs.declared.program.Listed.{Listed}
 use Rattle.f77_ast.specs.declared.program.Loop.{Loop}
 use Rattle.f77_ast.specs.declared.program.Program.{Program}
 use Rattle.f77_ast.specs.declared.program.Unit.{Unit as ProgramUnit}
-use Rattle.f77_meaning.specs.Loops.{terminal_label, loop_from, loops_in, loops_among}
-use Rattle.f77_meaning.specs.Process.{ActiveLoop, listing_of}
-use Rattle.f77_meaning.specs.Ranges.{IsDo}
+use Rattle.f77_structure.specs.Loops.{loop_from, loops_in, loops_among}
+use Rattle.f77_structure.specs.Statements.{terminal_label}
+use Rattle.f77_structure.specs.Units.{listing_of}
+use Rattle.f77_meaning.specs.Process.{ActiveLoop}
+use Rattle.f77_structure.specs.Ranges.{IsDo}
 use Rattle.f77_meaning.specs.Sound.{AreActive, IsSound}
 
 -- one more where there is a label

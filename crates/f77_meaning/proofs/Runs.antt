@@ -5,7 +5,8 @@ use Rattle.f77_ast.specs.declared.step.Stepped.{Stepped}
 use Rattle.f77_ast.specs.declared.step.Stepped.TheVariants.{Read, Wrote, Inner, Printed, Ended, Faulted}
 use Rattle.f77_meaning.specs.Event.{Event, reads, writes, moves, prints, ends, faults}
 use Rattle.f77_meaning.specs.StepOutcome.{StepOutcome, outcome_of_step, outcome_by, outcome_from}
-use Rattle.f77_meaning.specs.Process.{Process, listed_at, source_line}
+use Rattle.f77_structure.specs.Units.{source_line}
+use Rattle.f77_meaning.specs.Process.{Process, listed_at}
 use Rattle.f77_meaning.specs.Run.{Run, stopped, one_more, printed, after, run_from}
 use Rattle.f77_meaning.specs.Run as run
 use Rattle.f77_meaning.specs.Step.{event, once_done}

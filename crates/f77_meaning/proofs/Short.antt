@@ -7,10 +7,10 @@ use Rattle.f77_ast.specs.declared.program.Entity.{Entity}
 use Rattle.f77_ast.specs.declared.program.Layout.{Layout}
 use Rattle.f77_ast.specs.declared.fault.Fault.TheVariants.{LineLimit}
 use Rattle.f77_ast.specs.declared.stmt.Item.{Item, Plain}
-use Rattle.f77_meaning.specs.Arrays.{array_named}
+use Rattle.f77_structure.specs.Arrays.{array_named}
 use Rattle.f77_meaning.specs.Demand.{Demand, gives, wants, fails, and_then, demand_of, Evaluation, unit_value}
 use Rattle.f77_meaning.specs.Print.{line_limit, with_item, with_value, after_units, array_or_value, or_blank, after_item, after_items, line_of_items}
-use Rattle.f77_meaning.specs.Storage.{start_of, storage_units_of}
+use Rattle.f77_structure.specs.Storage.{start_of, storage_units_of}
 
 -- a line that was made is no longer than a line may be
 abbrev pub IsShort : Demand (List ℕ) → Type 0

@@ -1,7 +1,6 @@
 -- A process of a sound program stands at a statement after each step, in the range of each active loop.
-use Rattle.std.proofs.Common.{◌≡◌, ◌≢◌, ℕ, zero, suc, ◌+◌, ◌-◌, ◌<◌, ◌≤◌, ◌^◌, ◌==◌, ◌&&◌, ℤ, pos, List, [], ◌∷◌, ◌++◌, All, length, Option, None, Some, IsSome, IsTrue, refl, sym, ap, subst, ◌∙◌, arith, slice_get, Bool, true, false, not, cond, find}
+use Rattle.std.proofs.Common.{◌≡◌, ◌≢◌, ℕ, suc, ◌+◌, ◌-◌, ◌<◌, ◌≤◌, ◌^◌, ◌==◌, ◌&&◌, ℤ, pos, List, [], ◌∷◌, ◌++◌, All, length, Option, None, Some, IsSome, IsTrue, refl, sym, ap, subst, ◌∙◌, arith, slice_get, Bool, true, false, cond, find}
 use Rattle.std.specs.Prelude.{nat_lt}
-use Rattle.std.specs.Option.{option_and_then}
 use Rattle.f77_ast.specs.Entity.{entity_in, is_named}
 use Rattle.f77_ast.specs.declared.program.Entity.{Entity}
 use Rattle.f77_ast.specs.declared.program.Layout.{Layout}
@@ -9,69 +8,24 @@ use Rattle.f77_ast.specs.declared.program.Listed.{Listed}
 use Rattle.f77_ast.specs.declared.program.Loop.{Loop}
 use Rattle.f77_ast.specs.declared.program.Program.{Program}
 use Rattle.f77_ast.specs.declared.program.Unit.{Unit as ProgramUnit}
-use Rattle.f77_ast.specs.declared.fault.Fault.TheVariants.{Subscript, ZeroIncrement, DoRange}
+use Rattle.f77_ast.specs.declared.fault.Fault.TheVariants.{ZeroIncrement, DoRange}
 use Rattle.f77_ast.specs.declared.specification.Bound.{Bound}
 use Rattle.f77_ast.specs.declared.stmt.LoopControl.{LoopControl}
-use Rattle.f77_ast.specs.declared.stmt.Stmt.{Stmt, Assign, Continue, Do, Print, End}
+use Rattle.f77_ast.specs.declared.stmt.Stmt.{Stmt, Assign, Continue, Do, Print}
 use Rattle.f77_meaning.specs.Assign.{Written, written_of}
-use Rattle.f77_meaning.specs.Demand.{Demand, gives, wants, fails, and_then, located}
+use Rattle.f77_meaning.specs.Demand.{Demand, gives, wants, fails, and_then, located, unless_outside}
 use Rattle.f77_meaning.specs.Do.{Begun, Parameters, begun_of, begun_with, parameters_of, active_from, is_in_range, is_zero, count_of, has_64_bits, value_after}
-use Rattle.f77_meaning.specs.Loops.{loop_with_range_from, statement_number, terminal_label}
+use Rattle.f77_structure.specs.Loops.{loop_with_range_from}
+use Rattle.f77_structure.specs.Statements.{terminal_label}
+use Rattle.f77_structure.specs.Units.{statement_number, listing_of, first_executable, EndsWithEnd}
 use Rattle.f77_meaning.specs.Print.{line_of_items}
-use Rattle.f77_meaning.specs.Process.{ActiveLoop, Process, listed_at, listing_of, is_executable, first_executable, entry_of, first_process}
-use Rattle.f77_meaning.specs.Ranges.{HasRange, IsDo, RangesNest, may_end_range, terminal_at}
-use Rattle.f77_meaning.specs.Sound.{AreActive, NumbersFit, EndsWithEnd, IsActive, IsOf, IsSound}
+use Rattle.f77_meaning.specs.Process.{ActiveLoop, Process, listed_at, entry_of, first_process}
+use Rattle.f77_structure.specs.Ranges.{HasRange, IsDo, RangesNest, terminal_at}
+use Rattle.f77_meaning.specs.Sound.{AreActive, NumbersFit, IsActive, IsOf, IsSound}
 use Rattle.f77_meaning.specs.Step.{after_begun, after_listed, after_statement, past_statement, do_event, past_do, event, event_at, increment_event, past_increment, is_terminal, loop_of_do, once_done, print_event, resumed_by, statement_event, write_event}
-use Rattle.f77_meaning.specs.Storage.{IsStorage, LiesIn, is_scalar, start_of, storage_units_of, storage_units_by}
-use Rattle.f77_meaning.proofs.Loops.{range_of_loop}
-
--- whether control goes on after a statement: after all but END
-abbrev goes_on : Stmt → Type 0
-goes_on End = ⊥
-goes_on _ = Unit {0}
-
--- a terminal statement is no END
-terminal_goes_on : (s : Stmt) → IsTrue (may_end_range s) → goes_on s
-terminal_goes_on End e = absurd (cc)
-terminal_goes_on _ e = tt
-
--- after such a statement of statements that end with END comes a statement
-after_one : (before : List Listed) (last listed : Listed) (at : ℕ) → last.stmt ≡ End → slice_get (before ++ last ∷ []) at ≡ Some listed → goes_on listed.stmt → IsSome (slice_get (before ++ last ∷ []) (at + 1))
-after_one [] last listed zero e h p =
-    let same : last ≡ listed = cc in
-    let ends : listed.stmt ≡ End = ap (λ l. l.stmt) (sym same) ∙ e in
-    absurd (subst goes_on ends p)
-after_one [] last listed (suc at) e h p = absurd cc
-after_one (b ∷ []) last listed zero e h p = refl
-after_one (b ∷ c ∷ before) last listed zero e h p = refl
-after_one (b ∷ before) last listed (suc at) e h p =
-    let next : suc (at + 1) ≡ suc at + 1 = omega arith in
-    subst (λ n. IsSome (slice_get (b ∷ (before ++ last ∷ [])) n)) next (after_one before last listed at e h p)
-
--- the same of the statements of a unit
-after_in : (listing : List Listed) (listed : Listed) (at : ℕ) → EndsWithEnd listing → slice_get listing at ≡ Some listed → goes_on listed.stmt → IsSome (slice_get listing (at + 1))
-after_in listing listed at ended h p =
-    let there : slice_get (ended.before ++ ended.last ∷ []) at ≡ Some listed = subst (λ xs. slice_get xs at ≡ Some listed) ended.joined h in
-    subst (λ xs. IsSome (slice_get xs (at + 1))) (sym ended.joined) (after_one ended.before ended.last listed at ended.is_end there p)
-
--- what holds of the statements of each unit holds of those of a unit that has some
-pub of_unit : (P : List Listed → Type 0) (units : List ProgramUnit) (u at : ℕ) (listed : Listed) → All (λ unit. P unit.listing) units → slice_get (listing_of units u) at ≡ Some listed → P (listing_of units u)
-of_unit P [] u at listed all e = absurd (cc)
-of_unit P (first ∷ units) zero at listed all e = all 0 first (omega arith)
-of_unit P (first ∷ units) (suc u) at listed all e = of_unit P units u at listed (λ k d h. all (suc k) d (omega (arith, h))) e
-
--- the statement at a place of a unit, by the unit
-pub statement_in : (units : List ProgramUnit) (u at : ℕ) → slice_get (listing_of units u) at ≡ option_and_then (λ unit. slice_get unit.listing at) (slice_get units u)
-statement_in [] u at = refl
-statement_in (first ∷ units) zero at = refl
-statement_in (first ∷ units) (suc u) at = statement_in units u at
-
--- there are statements before a place at which one stands
-stands_before : {A : Type 0} (xs : List A) (a b : ℕ) → a ≤ b → IsSome (slice_get xs b) → IsSome (slice_get xs a)
-stands_before [] a b h s = absurd (cc)
-stands_before (x ∷ xs) zero b h s = refl
-stands_before (x ∷ xs) (suc a) zero h s = absurd (omega (arith, h))
-stands_before (x ∷ xs) (suc a) (suc b) h s = stands_before xs a b (omega (arith, h)) s
+use Rattle.f77_structure.specs.Storage.{IsStorage, LiesIn, is_scalar, start_of, storage_units_of, storage_units_by}
+use Rattle.f77_structure.proofs.UnitLemmas.{goes_on, terminal_goes_on, after_in, of_unit, stands_before, first_stands}
+use Rattle.f77_structure.proofs.Loops.{range_of_loop}
 
 -- a statement stands where one is found
 is_some : {A : Type 0} (o : Option A) (x : A) → o ≡ Some x → IsSome o
@@ -262,7 +216,7 @@ begun_numbers total variable m left rest begun within e = by (is_zero m.incremen
 begins_of : (layout : Layout) (unit : ℕ) (control : LoopControl) (answers rest : List ℤ) (begun : Begun) → IsStorage layout → begun_of layout unit control answers ≡ gives begun rest → Begins (length layout.first) begun
 begins_of layout unit control answers rest begun storage e = by (parameters_of layout unit control answers) e
   where
-    variable_by : (m : Parameters) (left : List ℤ) (entity : Entity) → entity_in layout.entities unit control.variable ≡ Some entity → (b : Bool) → is_scalar entity.bounds ≡ b → and_then (cond b (gives (start_of entity) left) (fails Subscript)) (λ variable more. begun_with variable m more) ≡ gives begun rest → Begins (length layout.first) begun
+    variable_by : (m : Parameters) (left : List ℤ) (entity : Entity) → entity_in layout.entities unit control.variable ≡ Some entity → (b : Bool) → is_scalar entity.bounds ≡ b → and_then (unless_outside (cond b (Some (start_of entity)) None) left) (λ variable more. begun_with variable m more) ≡ gives begun rest → Begins (length layout.first) begun
     variable_by m left entity h true scalar e =
         let lies : LiesIn (length layout.first) entity = entity_lies (length layout.first) layout.entities unit control.variable entity storage.lie h in
         begun_numbers (length layout.first) (start_of entity) m left rest begun (omega (arith, lies.within, one_unit entity scalar)) e
@@ -326,18 +280,6 @@ IsOf-resumed program p answer sound is_of = by p.increments refl
     by : (b : Bool) → p.increments ≡ b → IsOf program (resumed_by (cond b (increment_event p.active) (event_at program p.unit p.at (listed_at program p) p.answers)) (cond b (past_increment p.unit p.at p.active) (after_listed program p (listed_at program p))) p answer)
     by true e = turned e p.active refl
     by false e = here (listed_at program p) refl
-
--- END is executable, so there is a first executable statement
-first_stands : (before : List Listed) (last : Listed) → last.stmt ≡ End → IsSome (slice_get (before ++ last ∷ []) (first_executable (before ++ last ∷ [])))
-first_stands [] last e = subst (λ s. IsSome (slice_get (last ∷ []) (cond (not (is_executable s)) (1 + 0) 0))) (sym e) refl
-first_stands (b ∷ before) last e = by (is_executable b.stmt) (first_stands before last e)
-  where
-    next : suc (first_executable (before ++ last ∷ [])) ≡ 1 + first_executable (before ++ last ∷ [])
-    next = omega arith
-
-    by : (x : Bool) → IsSome (slice_get (before ++ last ∷ []) (first_executable (before ++ last ∷ []))) → IsSome (slice_get (b ∷ (before ++ last ∷ [])) (cond (not x) (1 + first_executable (before ++ last ∷ [])) 0))
-    by true h = refl
-    by false h = subst (λ n. IsSome (slice_get (b ∷ (before ++ last ∷ [])) n)) next h
 
 -- before the first step, a process of a sound program stands at a statement, and no loop is active
 pub IsOf-first : (program : Program) → IsSound program → IsOf program (first_process program)

@@ -1,7 +1,7 @@
 -- The value of an expression, from the values of the units that it reads (ANSI X3.9-1978, section 6).
 -- It is evaluated from left to right. Each value that it reads is taken in turn from a list of answers: where the list
 -- is too short, the evaluation asks for the unit that it reads next.
-use Rattle.std.specs.Prelude.{ℕ, suc, ◌+◌, ℤ, pos, List, [], ◌∷◌, Option, None, Some, nat_lt, if◌then◌else◌}
+use Rattle.std.specs.Prelude.{ℕ, ℤ, pos, List, [], ◌∷◌, Option, None, Some}
 use Rattle.hyb_base.specs.Wrap.{sum_of, difference_of, product_of, negation_of, quotient_of, power_of}
 use Rattle.f77_ast.specs.declared.expr.Op.{Op}
 use Rattle.f77_ast.specs.declared.expr.Op.TheVariants.{Plus, Neg, Add, Sub, Mul, Div, Pow}
@@ -15,7 +15,7 @@ use Rattle.f77_ast.specs.declared.program.Layout.{Layout}
 use Rattle.f77_ast.specs.declared.fault.Fault.{Fault}
 use Rattle.f77_ast.specs.declared.fault.Fault.TheVariants.{ZeroDivisor, Subscript}
 use Rattle.f77_ast.specs.Entity.{entity_in}
-use Rattle.f77_meaning.specs.Storage.{is_scalar, start_of, vector_extent}
+use Rattle.f77_structure.specs.Storage.{address_of_variable, address_of_element}
 
 -- what an evaluation comes to: a value and the answers that are left, the address of the unit that is read next, or a fault
 pub data Demand (A : Type 0) : Type 0 where
@@ -54,20 +54,10 @@ abbrev pub unit_value : (address : ℕ) → List ℤ → Demand ℤ
 unit_value address [] = wants address
 unit_value address (value ∷ rest) = gives value rest
 
--- the place of an element by its subscript, from 0: the first subscript is 1 (section 5.1.1.1)
-abbrev pub offset_of : (subscript : ℤ) → Option ℕ
-offset_of (pos (suc k)) = Some k
-offset_of _ = None
-
--- the address of the element at a place, in an array that starts here and has so many elements (section 5.4); a
--- subscript outside the dimension is a fault, and so is any of what is no array of one dimension
-abbrev pub element_at : (start : ℕ) → (extent offset : Option ℕ) → List ℤ → Demand ℕ
-element_at start (Some extent) (Some k) rest = if nat_lt k extent then gives (start + k) rest else fails Subscript
-element_at start _ _ rest = fails Subscript
-
--- the address of the element of a subscript
-abbrev pub element_address : Entity → (subscript : ℤ) → List ℤ → Demand ℕ
-element_address entity subscript rest = element_at (start_of entity) (vector_extent entity.bounds) (offset_of subscript) rest
+-- an address, or a subscript outside its bounds where there is none
+abbrev pub unless_outside : Option ℕ → List ℤ → Demand ℕ
+unless_outside (Some address) rest = gives address rest
+unless_outside None rest = fails Subscript
 
 -- what an expression comes to on these answers
 abbrev pub Evaluation : Type 0
@@ -77,15 +67,11 @@ Evaluation = List ℤ → Demand ℤ
 abbrev pub Location : Type 0
 Location = List ℤ → Demand ℕ
 
--- the address of a variable
-abbrev pub variable_address : Entity → List ℤ → Demand ℕ
-variable_address entity rest = if is_scalar entity.bounds then gives (start_of entity) rest else fails Subscript
-
 -- the unit of a variable, or of an element: the subscript is evaluated, and then checked; any other list of
 -- subscripts is fault 2, and a substring's bounds aren't looked at yet; no accepted program has either
 abbrev pub located : Option Entity → Option (List Evaluation) → Location
-located (Some entity) None answers = variable_address entity answers
-located (Some entity) (Some (subscript ∷ [])) answers = and_then (subscript answers) (λ s rest. element_address entity s rest)
+located (Some entity) None answers = unless_outside (address_of_variable entity) answers
+located (Some entity) (Some (subscript ∷ [])) answers = and_then (subscript answers) (λ s rest. unless_outside (address_of_element entity s) rest)
 located _ _ answers = fails Subscript
 
 -- one level: the left operand before the right one; a reference reads its subscript, and then its unit

@@ -1,15 +1,10 @@
-pub mod Arrays
 pub mod Assign
 pub mod Demand
 pub mod Do
 pub mod Event
-pub mod Loops
 pub mod StepOutcome
 pub mod Print
 pub mod Process
-pub mod Ranges
 pub mod Run
-pub mod Resolves
 pub mod Sound
 pub mod Step
-pub mod Storage

@@ -5,9 +5,9 @@ use Rattle.f77_ast.specs.declared.program.Entity.{Entity}
 use Rattle.f77_ast.specs.declared.program.Layout.{Layout}
 use Rattle.f77_ast.specs.declared.stmt.Item.{Item, Plain}
 use Rattle.f77_ast.specs.declared.fault.Fault.TheVariants.{LineLimit}
-use Rattle.f77_meaning.specs.Arrays.{array_named}
+use Rattle.f77_structure.specs.Arrays.{array_named}
 use Rattle.f77_meaning.specs.Demand.{Demand, gives, fails, and_then, demand_of, Evaluation, unit_value}
-use Rattle.f77_meaning.specs.Storage.{start_of, storage_units_of}
+use Rattle.f77_structure.specs.Storage.{start_of, storage_units_of}
 
 -- the greatest number of bytes of a line
 abbrev pub line_limit : ℕ

@@ -1,11 +1,9 @@
 -- A process: where control is in a program, and what is known there (ANSI X3.9-1978, sections 7.1 and 11.10).
-use Rattle.std.specs.Prelude.{ℕ, zero, suc, ℤ, Bool, true, false, not, List, [], ◌∷◌, Option, None, Some, slice_get}
-use Rattle.std.specs.List.{prefix_len}
+use Rattle.std.specs.Prelude.{ℕ, ℤ, Bool, false, List, [], ◌∷◌, Option}
 use Rattle.f77_ast.specs.declared.program.Listed.{Listed}
 use Rattle.f77_ast.specs.declared.program.Program.{Program}
 use Rattle.f77_ast.specs.declared.program.Unit.{Unit as ProgramUnit}
-use Rattle.f77_ast.specs.declared.stmt.Stmt.{Stmt}
-use Rattle.f77_ast.specs.declared.stmt.Stmt as stmt
+use Rattle.f77_structure.specs.Units.{statement_at, first_executable}
 
 -- an active DO-loop (section 11.10.2): which DO statement of the file it is of, counted from 1; the places of the first
 -- and the terminal statement of its range in its unit; the address of its variable; what the execution of the DO
@@ -30,44 +28,9 @@ pub record Process : Type 0 where
   pub active : List ActiveLoop
   pub increments : Bool
 
--- the statements of a unit; none where there is no such unit
-abbrev pub listing_of : List ProgramUnit → (unit : ℕ) → List Listed
-listing_of [] unit = []
-listing_of (first ∷ units) zero = first.listing
-listing_of (first ∷ units) (suc unit) = listing_of units unit
-
--- the statement at a place of a unit, both counted from 0
-abbrev pub statement_at : Program → (unit at : ℕ) → Option Listed
-statement_at program unit at = slice_get (listing_of program.units unit) at
-
 -- the statement at which a process stands
 abbrev pub listed_at : Program → Process → Option Listed
 listed_at program p = statement_at program p.unit p.at
-
--- the initial line of that statement
-abbrev pub source_line : Option Listed → ℕ
-source_line None = 0
-source_line (Some listed) = listed.card.line
-
--- whether a statement is executable: all but PROGRAM, SUBROUTINE, FUNCTION, the specification statements and DATA
--- (section 7)
-abbrev pub is_executable : Stmt → Bool
-is_executable (stmt.Program name) = false
-is_executable (stmt.Subroutine name dummies) = false
-is_executable (stmt.Function typ name dummies) = false
-is_executable (stmt.Declare typ entities) = false
-is_executable (stmt.Dimension arrays) = false
-is_executable (stmt.Common groups) = false
-is_executable (stmt.Equivalence groups) = false
-is_executable (stmt.Parameter constants) = false
-is_executable (stmt.Implicit rules) = false
-is_executable (stmt.Save entries) = false
-is_executable (stmt.Init groups) = false
-is_executable _ = true
-
--- the place of the first executable statement of some statements
-abbrev pub first_executable : List Listed → ℕ
-first_executable listing = prefix_len (λ listed. not (is_executable listed.stmt)) listing
 
 -- the same of the first of some units, which is the main unit of each program that is accepted so far
 abbrev pub entry_of : List ProgramUnit → ℕ

@@ -3,7 +3,8 @@ use Rattle.std.specs.Prelude.{ℕ, zero, suc, ◌+◌, ℤ, pos, List, [], ◌�
 use Rattle.f77_ast.specs.declared.program.Program.{Program}
 use Rattle.f77_ast.specs.declared.fault.Fault.{Fault}
 use Rattle.f77_meaning.specs.Event.{Event, reads, writes, moves, prints, ends, faults}
-use Rattle.f77_meaning.specs.Process.{Process, first_process, listed_at, source_line}
+use Rattle.f77_structure.specs.Units.{source_line}
+use Rattle.f77_meaning.specs.Process.{Process, first_process, listed_at}
 use Rattle.f77_meaning.specs.Step.{event, once_done, resumed_by}
 
 -- how a run ends: at its end, by a fault at a statement's line, or with its steps spent

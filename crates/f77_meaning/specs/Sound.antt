@@ -1,24 +1,18 @@
 -- What a step may ask of its program, its process, the storage and the line of PRINT.
-use Rattle.std.specs.Prelude.{◌≡◌, ℕ, ◌+◌, ◌-◌, ◌^◌, ◌<◌, ◌≤◌, ℤ, Bool, true, false, ◌&&◌, ◌||◌, List, [], ◌∷◌, ◌++◌, length, All, Option, None, Some, IsSome, IsTrue, slice_get}
+use Rattle.std.specs.Prelude.{◌≡◌, ℕ, ◌+◌, ◌-◌, ◌^◌, ◌<◌, ◌≤◌, ℤ, true, List, [], ◌∷◌, length, All, Option, None, Some, IsSome, IsTrue, slice_get}
 use Rattle.f77_ast.specs.declared.program.Layout.{Layout}
 use Rattle.f77_ast.specs.declared.program.Listed.{Listed}
 use Rattle.f77_ast.specs.declared.program.Program.{Program}
 use Rattle.f77_ast.specs.declared.program.Unit.{Unit as ProgramUnit}
-use Rattle.f77_ast.specs.declared.stmt.Stmt.{Stmt, Print, End}
-use Rattle.f77_meaning.specs.Resolves.{statement_resolves}
-use Rattle.f77_meaning.specs.Storage.{IsStorage}
+use Rattle.f77_ast.specs.declared.stmt.Stmt.{Stmt, Print}
+use Rattle.f77_structure.specs.HasMeaning.{statement_has_meaning}
+use Rattle.f77_structure.specs.Storage.{IsStorage}
 use Rattle.f77_meaning.specs.Do.{has_64_bits, value_after}
-use Rattle.f77_meaning.specs.Loops.{loops_of, statement_count}
-use Rattle.f77_meaning.specs.Process.{ActiveLoop, Process, listed_at, listing_of}
-use Rattle.f77_meaning.specs.Ranges.{IsDo, RangesNest, terminal_at}
+use Rattle.f77_structure.specs.Loops.{loops_of}
+use Rattle.f77_structure.specs.Units.{statement_count, listing_of, EndsWithEnd}
+use Rattle.f77_meaning.specs.Process.{ActiveLoop, Process, listed_at}
+use Rattle.f77_structure.specs.Ranges.{IsDo, RangesNest, terminal_at}
 use Rattle.f77_meaning.specs.Step.{is_terminal}
-
--- statements, the last of which is END (ANSI X3.9-1978, sections 2.4 and 11.14)
-pub record EndsWithEnd (listing : List Listed) : Type 0 where
-  pub before : List Listed
-  pub last : Listed
-  pub joined : listing ≡ before ++ last ∷ []
-  pub is_end : last.stmt ≡ End
 
 -- what every accepted program satisfies: it has a first unit, which is the main unit so far, each unit ends with END, the
 -- references of its assignments, DO statements and PRINTs name entities, these lie in storage, its loops are those of its
@@ -26,7 +20,7 @@ pub record EndsWithEnd (listing : List Listed) : Type 0 where
 pub record IsSound (program : Program) : Type 0 where
   pub main : IsSome (slice_get program.units 0)
   pub ended : All (λ unit. EndsWithEnd unit.listing) program.units
-  pub resolved : (u : ℕ) (unit : ProgramUnit) → slice_get program.units u ≡ Some unit → All (λ listed. IsTrue (statement_resolves program.layout u listed.stmt)) unit.listing
+  pub meaning : (u : ℕ) (unit : ProgramUnit) → slice_get program.units u ≡ Some unit → All (λ listed. IsTrue (statement_has_meaning program.layout u listed.stmt)) unit.listing
   pub storage : IsStorage program.layout
   pub loops : program.loops ≡ loops_of program.units
   pub ranges : All (λ unit. RangesNest unit.listing) program.units

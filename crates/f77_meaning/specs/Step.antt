@@ -9,7 +9,8 @@ use Rattle.f77_meaning.specs.Assign.{Written, written_of}
 use Rattle.f77_meaning.specs.Demand.{Demand, gives, wants, fails}
 use Rattle.f77_meaning.specs.Do.{Begun, begun_of, active_from, next_value}
 use Rattle.f77_meaning.specs.Event.{Event, reads, writes, moves, prints, ends, faults}
-use Rattle.f77_meaning.specs.Loops.{loop_with_range_from, statement_number}
+use Rattle.f77_structure.specs.Loops.{loop_with_range_from}
+use Rattle.f77_structure.specs.Units.{statement_number}
 use Rattle.f77_meaning.specs.Print.{line_of_items}
 use Rattle.f77_meaning.specs.Process.{ActiveLoop, Process, listed_at}
 

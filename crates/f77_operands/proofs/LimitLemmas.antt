@@ -9,7 +9,7 @@ use Rattle.f77_ast.specs.declared.program.Unit.{Unit as ProgramUnit}
 use Rattle.f77_ast.specs.declared.refusal.Refusal.{Refusal}
 use Rattle.f77_operands.specs.Laws.{needs_of, AcceptedWithinTheLimit, RefusedWhereTheLimitIsPassed}
 use Rattle.f77_operands.specs.Limit.{greatest_need, is_past, too_many, unit_refusal, refusal_from, operand_refusal}
-use Rattle.f77_operands.specs.Needs.{need_of}
+use Rattle.f77_structure.specs.Needs.{need_of}
 
 -- ---- greatest needs
 

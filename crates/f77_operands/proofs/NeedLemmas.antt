@@ -6,7 +6,7 @@ use Rattle.f77_ast.specs.declared.expr.Expr.TheFolds.{fold-Part, fold-roll-Part,
 use Rattle.f77_ast.specs.declared.expr.Part.{Part, out-Part, roll-Part, roll-out-Part}
 use Rattle.f77_ast.specs.declared.expr.Ref.{Ref, out-Ref, roll-Ref, roll-out-Ref}
 use Rattle.f77_operands.specs.Capped.{capped}
-use Rattle.f77_operands.specs.Needs.{expr_need, ref_need, args_need, part_need, option_need, expr_step, part_step, ref_step}
+use Rattle.f77_structure.specs.Needs.{expr_need, ref_need, args_need, part_need, option_need, expr_step, part_step, ref_step}
 
 -- the need of the bounds of a substring
 part_by : (low high : Option Expr) → fold-Part ℕ ℕ ℕ expr_step part_step ref_step (roll-Part (record { low = low; high = high })) ≡ option_need expr_need low + option_need expr_need high

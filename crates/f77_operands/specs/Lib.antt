@@ -1,4 +1,3 @@
 pub mod Capped
 pub mod Laws
 pub mod Limit
-pub mod Needs

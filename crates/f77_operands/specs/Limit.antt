@@ -4,7 +4,7 @@ use Rattle.std.specs.Option.{option_or}
 use Rattle.f77_ast.specs.declared.program.Listed.{Listed}
 use Rattle.f77_ast.specs.declared.program.Unit.{Unit as ProgramUnit}
 use Rattle.f77_ast.specs.declared.refusal.Refusal.{Refusal}
-use Rattle.f77_operands.specs.Needs.{need_of}
+use Rattle.f77_structure.specs.Needs.{need_of}
 
 -- the need of some statements of a unit: the greatest of theirs
 abbrev pub greatest_need : List Listed → ℕ

@@ -1,7 +1,7 @@
 //! Numbers of operands that don't wrap: one past the limit is kept as one more than may be.
 ghost use Rattle.std.specs.Prelude.{◌≡◌, ◌+◌, length};
 ghost use Rattle.f77_operands.specs.Capped.{capped};
-ghost use Rattle.f77_operands.specs.Needs.{one_if};
+ghost use Rattle.f77_structure.specs.Needs.{one_if};
 
 /// The greatest number of operands of a file.
 pub const MOST_OPERANDS: u32 = 32_768;

@@ -17,7 +17,7 @@ pub trait Counted {
 }
 
 impl<T: Counted> Counted for Option<T> {
-    ghost use Rattle.f77_operands.specs.Needs.{option_need};
+    ghost use Rattle.f77_structure.specs.Needs.{option_need};
 
     ghost need_of = { option_need T.need_of };
 

@@ -1,7 +1,7 @@
 //! How many operands a statement needs: one for each of its literals, names and references.
 ghost use Rattle.std.specs.Prelude.{◌≡◌, ◌+◌, ℕ, List, length, sum_by};
 ghost use Rattle.f77_operands.specs.Capped.{capped};
-ghost use Rattle.f77_operands.specs.Needs.{expr_need, ref_need, option_need, args_need, part_need, control_need, item_need, length_need, type_need, bound_need, declarator_need, entity_need, group_need, members_need, named_need, rule_need, value_need, data_need, need_of};
+ghost use Rattle.f77_structure.specs.Needs.{expr_need, ref_need, option_need, args_need, part_need, control_need, item_need, length_need, type_need, bound_need, declarator_need, entity_need, group_need, members_need, named_need, rule_need, value_need, data_need, need_of};
 
 use crate::capped::{count, one_if, plus};
 use crate::counted::{Counted, needs};
@@ -82,7 +82,7 @@ fn end_need(end: &Option<Expr>) -> u32
 }
 
 impl Counted for Expr {
-    ghost use Rattle.f77_operands.specs.Needs.{expr_need};
+    ghost use Rattle.f77_structure.specs.Needs.{expr_need};
 
     ghost need_of = { expr_need };
 
@@ -92,7 +92,7 @@ impl Counted for Expr {
 }
 
 impl Counted for Ref {
-    ghost use Rattle.f77_operands.specs.Needs.{ref_need};
+    ghost use Rattle.f77_structure.specs.Needs.{ref_need};
 
     ghost need_of = { ref_need };
 
@@ -102,7 +102,7 @@ impl Counted for Ref {
 }
 
 impl Counted for LoopControl {
-    ghost use Rattle.f77_operands.specs.Needs.{control_need};
+    ghost use Rattle.f77_structure.specs.Needs.{control_need};
 
     ghost need_of = { control_need };
 
@@ -131,7 +131,7 @@ fn item_need(item: &Item) -> u32
 }
 
 impl Counted for Item {
-    ghost use Rattle.f77_operands.specs.Needs.{item_need};
+    ghost use Rattle.f77_structure.specs.Needs.{item_need};
 
     ghost need_of = { item_need };
 
@@ -141,7 +141,7 @@ impl Counted for Item {
 }
 
 impl Counted for Length {
-    ghost use Rattle.f77_operands.specs.Needs.{length_need};
+    ghost use Rattle.f77_structure.specs.Needs.{length_need};
 
     ghost need_of = { length_need };
 
@@ -156,7 +156,7 @@ impl Counted for Length {
 }
 
 impl Counted for TypeSpec {
-    ghost use Rattle.f77_operands.specs.Needs.{type_need};
+    ghost use Rattle.f77_structure.specs.Needs.{type_need};
 
     ghost need_of = { type_need };
 
@@ -171,7 +171,7 @@ impl Counted for TypeSpec {
 }
 
 impl Counted for Bound {
-    ghost use Rattle.f77_operands.specs.Needs.{bound_need};
+    ghost use Rattle.f77_structure.specs.Needs.{bound_need};
 
     ghost need_of = { bound_need };
 
@@ -182,7 +182,7 @@ impl Counted for Bound {
 }
 
 impl Counted for Declarator {
-    ghost use Rattle.f77_operands.specs.Needs.{declarator_need};
+    ghost use Rattle.f77_structure.specs.Needs.{declarator_need};
 
     ghost need_of = { declarator_need };
 
@@ -193,7 +193,7 @@ impl Counted for Declarator {
 }
 
 impl Counted for TypedDeclarator {
-    ghost use Rattle.f77_operands.specs.Needs.{entity_need};
+    ghost use Rattle.f77_structure.specs.Needs.{entity_need};
 
     ghost need_of = { entity_need };
 
@@ -204,7 +204,7 @@ impl Counted for TypedDeclarator {
 }
 
 impl Counted for CommonGroup {
-    ghost use Rattle.f77_operands.specs.Needs.{group_need};
+    ghost use Rattle.f77_structure.specs.Needs.{group_need};
 
     ghost need_of = { group_need };
 
@@ -215,7 +215,7 @@ impl Counted for CommonGroup {
 }
 
 impl Counted for EquivalenceGroup {
-    ghost use Rattle.f77_operands.specs.Needs.{members_need};
+    ghost use Rattle.f77_structure.specs.Needs.{members_need};
 
     ghost need_of = { members_need };
 
@@ -226,7 +226,7 @@ impl Counted for EquivalenceGroup {
 }
 
 impl Counted for NamedConstant {
-    ghost use Rattle.f77_operands.specs.Needs.{named_need};
+    ghost use Rattle.f77_structure.specs.Needs.{named_need};
 
     ghost need_of = { named_need };
 
@@ -237,7 +237,7 @@ impl Counted for NamedConstant {
 }
 
 impl Counted for ImplicitRule {
-    ghost use Rattle.f77_operands.specs.Needs.{rule_need};
+    ghost use Rattle.f77_structure.specs.Needs.{rule_need};
 
     ghost need_of = { rule_need };
 
@@ -248,7 +248,7 @@ impl Counted for ImplicitRule {
 }
 
 impl Counted for DataValue {
-    ghost use Rattle.f77_operands.specs.Needs.{value_need};
+    ghost use Rattle.f77_structure.specs.Needs.{value_need};
 
     ghost need_of = { value_need };
 
@@ -259,7 +259,7 @@ impl Counted for DataValue {
 }
 
 impl Counted for DataGroup {
-    ghost use Rattle.f77_operands.specs.Needs.{data_need};
+    ghost use Rattle.f77_structure.specs.Needs.{data_need};
 
     ghost need_of = { data_need };
 

@@ -9,21 +9,22 @@ use Rattle.f77_ast.specs.declared.program.Listed.{Listed}
 use Rattle.f77_ast.specs.declared.program.Unit.{Unit as ProgramUnit}
 use Rattle.f77_ast.specs.declared.refusal.Refusal.{Refusal}
 use Rattle.f77_cards.specs.Cards.{when, first_of}
-use Rattle.f77_meaning.specs.Loops.{terminal_label, has_label, distance_to, statement_count}
-use Rattle.f77_meaning.specs.Ranges.{IsDo, terminal_at, HasRange, RangesNest}
-use Rattle.f77_shape.specs.declared.stretches.Stretch.{Stretch}
+use Rattle.f77_structure.specs.Labels.{has_label, distance_to, target_from, target_in}
+use Rattle.f77_structure.specs.Statements.{terminal_label, is_end}
+use Rattle.f77_structure.specs.Units.{statement_count, onto_first, cut, unit_of, units_of}
+use Rattle.f77_structure.specs.Ranges.{IsDo, terminal_at, HasRange, RangesNest}
+use Rattle.f77_structure.specs.declared.stretches.Stretch.{Stretch}
 use Rattle.f77_shape.specs.Blocks.{is_misplaced_part, is_unended}
 use Rattle.f77_shape.specs.Breaks.{at, broken_by}
 use Rattle.f77_shape.specs.Jumps.{jumps_in}
-use Rattle.f77_shape.specs.Labels.{target_from, target_in, misses_label, doubles_label}
+use Rattle.f77_shape.specs.Labels.{misses_label, doubles_label}
 use Rattle.f77_shape.specs.Laws.{AcceptedRangesNest, AcceptedFilesAreSmall}
 use Rattle.f77_shape.specs.Limits.{statement_breaks, unit_breaks, name_breaks, statement_over, unit_over}
 use Rattle.f77_shape.specs.Order.{is_out_of_order}
 use Rattle.f77_shape.specs.Program.{main_breaks, end_breaks, first_refused}
 use Rattle.f77_shape.specs.Ranges.{may_end, crosses, crosses_a_range, leaves_a_block, breaks_to, breaks_with, breaks_range}
 use Rattle.f77_shape.specs.Shape.{breaks_in, breaks_among, breaks_of, unless_refused, shape_of}
-use Rattle.f77_shape.specs.Stretches.{range_to, range_at, ranges_from}
-use Rattle.f77_shape.specs.Units.{is_end, onto_first, cut, unit_of, units_of}
+use Rattle.f77_structure.specs.Stretches.{range_to, range_at, ranges_from}
 
 -- ---- nothing is broken
 

@@ -8,13 +8,13 @@ use Rattle.f77_ast.specs.declared.program.Unit.{Unit as ProgramUnit}
 use Rattle.f77_ast.specs.declared.stmt.Stmt.{Stmt, End}
 use Rattle.f77_ast.specs.declared.stmt.Stmt as stmt
 use Rattle.f77_cards.specs.Cards.{when}
-use Rattle.f77_meaning.specs.Sound.{EndsWithEnd}
+use Rattle.f77_structure.specs.Units.{EndsWithEnd, is_main, onto_first, cut, unit_of, units_of}
 use Rattle.f77_shape.specs.Breaks.{at}
 use Rattle.f77_shape.specs.Laws.{AcceptedUnitsEnd, AcceptedFilesHaveOneMain, HasOneMain}
 use Rattle.f77_shape.specs.Limits.{statement_breaks, unit_breaks, name_breaks}
 use Rattle.f77_shape.specs.Program.{main_breaks, second_mains, end_breaks, end_breaks_by, first_refused, no_program}
 use Rattle.f77_shape.specs.Shape.{breaks_in, breaks_among}
-use Rattle.f77_shape.specs.Units.{is_end, is_main, onto_first, cut, unit_of, units_of}
+use Rattle.f77_structure.specs.Statements.{is_end}
 use Rattle.f77_shape.proofs.Accepted.{Nothing, nothing_broken, left_none, right_none, kept_when, have_statements, mapped, HasStatement}
 
 -- ---- each unit ends with END

@@ -2,10 +2,10 @@
 use Rattle.std.proofs.Common.{◌≡◌, ℕ, suc, ◌+◌, ◌<◌, Bool, true, false, not, ◌&&◌, ◌||◌, nat_lt, List, [], ◌∷◌, refl, ap, ◌∙◌, arith}
 use Rattle.std.proofs.lemmas.Bool.Decides.{nat_tests}
 use Rattle.std.specs.List.{list_any}
-use Rattle.f77_shape.specs.declared.stretches.Stretch.{Stretch}
+use Rattle.f77_structure.specs.declared.stretches.Stretch.{Stretch}
 use Rattle.f77_shape.specs.Jumps.{is_entered}
 use Rattle.f77_shape.specs.Ranges.{crosses, is_one_of}
-use Rattle.f77_shape.specs.Stretches.{holds}
+use Rattle.f77_structure.specs.Stretches.{holds}
 
 shuffle : (a b c d : Bool) → ((a || b) || (c || d)) ≡ ((a || c) || (b || d))
 shuffle true b c d = refl

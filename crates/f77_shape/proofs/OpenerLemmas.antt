@@ -3,7 +3,7 @@ use Rattle.std.proofs.Common.{◌≡◌, ℕ, zero, suc, ◌-◌, ◌<◌, ◌�
 use Rattle.std.proofs.lemmas.Bool.Decides.{nat_tests}
 use Rattle.std.proofs.lemmas.Option.{slice_get_within, get_or_from_slice_get}
 use Rattle.std.specs.List.{list_any}
-use Rattle.f77_shape.specs.declared.stretches.Stretch.{Stretch}
+use Rattle.f77_structure.specs.declared.stretches.Stretch.{Stretch}
 use Rattle.f77_shape.specs.StretchIndex.{ends_before, mirrored}
 use Rattle.f77_shape.specs.Jumps.{is_entered}
 use Rattle.f77_shape.specs.Openers.{opens_behind, AreOpeners, farthest_from, farthest, AreFarthest, opener_before, AreFound}

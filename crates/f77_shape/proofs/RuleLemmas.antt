@@ -5,9 +5,8 @@ use Rattle.std.proofs.lemmas.List.{drop_more, take_more}
 use Rattle.std.proofs.lemmas.List.Folds.{list_any_more}
 use Rattle.std.specs.List.{list_any}
 use Rattle.f77_ast.specs.declared.program.Listed.{Listed}
-use Rattle.f77_meaning.specs.Loops.{is_label, has_label}
+use Rattle.f77_structure.specs.Labels.{is_label, has_label, target_from, has_any}
 use Rattle.f77_shape.specs.Blocks.{opened_by, open_after, open_at, ends_count, ends_in}
-use Rattle.f77_shape.specs.Labels.{target_from, has_any}
 use Rattle.f77_shape.specs.Tables.{is_seen}
 
 -- a test of some statement among those up to a place

@@ -8,7 +8,8 @@ use Rattle.f77_ast.specs.declared.refusal.Refusal.{Refusal}
 use Rattle.f77_cards.specs.Cards.{first_of}
 use Rattle.f77_shape.specs.Breaks.{sooner}
 use Rattle.f77_shape.specs.Program.{first_refused, second_mains}
-use Rattle.f77_shape.specs.Units.{is_end, onto_first, cut, without_end, unit_of, is_main}
+use Rattle.f77_structure.specs.Statements.{is_end}
+use Rattle.f77_structure.specs.Units.{onto_first, cut, without_end, unit_of, is_main}
 use Rattle.f77_shape.proofs.Firsts.{sooner-assoc, first_of-append}
 
 -- the units of some statements, the first of which belong to a unit that is begun with these

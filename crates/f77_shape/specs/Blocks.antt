@@ -59,20 +59,3 @@ lacks_end _ ends = false
 
 abbrev pub is_unended : ℕ → Listed → List Listed → Bool
 is_unended place listed following = lacks_end listed.stmt (ends_in following)
-
--- for each IF that is open behind a statement, the innermost first, the place of its last part so far: IF with THEN opens an
--- IF, ELSE IF and ELSE are the next part of the innermost one, END IF closes it. Without an open IF they are part of none; an
--- ELSE IF or ELSE after the ELSE of its IF is a part of it all the same
-abbrev pub parts_behind : Stmt → (place : ℕ) → List ℕ → List ℕ
-parts_behind (stmt.BlockIf condition) place parts = place ∷ parts
-parts_behind (stmt.ElseIf condition) place (part ∷ parts) = place ∷ parts
-parts_behind stmt.Else place (part ∷ parts) = place ∷ parts
-parts_behind stmt.EndIf place (part ∷ parts) = parts
-parts_behind _ place parts = parts
-
--- whether a statement ends the IF block before it: ELSE IF, ELSE or END IF
-abbrev pub ends_block : Stmt → Bool
-ends_block (stmt.ElseIf condition) = true
-ends_block stmt.Else = true
-ends_block stmt.EndIf = true
-ends_block _ = false

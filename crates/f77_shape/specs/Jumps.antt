@@ -2,9 +2,10 @@
 use Rattle.std.specs.Prelude.{ℕ, Bool, false, ◌&&◌, not, List, ◌++◌, Option, None, Some}
 use Rattle.std.specs.List.{list_any}
 use Rattle.f77_ast.specs.declared.program.Listed.{Listed}
-use Rattle.f77_shape.specs.Labels.{target_in, jumps_of}
-use Rattle.f77_shape.specs.declared.stretches.Stretch.{Stretch}
-use Rattle.f77_shape.specs.Stretches.{holds, ranges_of, blocks_of}
+use Rattle.f77_structure.specs.Labels.{target_in, jumps_of}
+use Rattle.f77_structure.specs.declared.stretches.Stretch.{Stretch}
+use Rattle.f77_structure.specs.Blocks.{blocks_of}
+use Rattle.f77_structure.specs.Stretches.{holds, ranges_of}
 
 -- whether a range or block holds a place, and not the place of the jump
 abbrev pub is_entered : (from to : ℕ) → Stretch → Bool

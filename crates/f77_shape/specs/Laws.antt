@@ -3,11 +3,9 @@ use Rattle.std.specs.Prelude.{◌≡◌, ◌≢◌, ◌≤◌, ℕ, List, Some, 
 use Rattle.std.specs.List.{flat_map}
 use Rattle.f77_ast.specs.declared.program.Listed.{Listed}
 use Rattle.f77_ast.specs.declared.program.Unit.{Unit as ProgramUnit}
-use Rattle.f77_meaning.specs.Loops.{statement_count}
-use Rattle.f77_meaning.specs.Ranges.{RangesNest}
-use Rattle.f77_meaning.specs.Sound.{EndsWithEnd}
+use Rattle.f77_structure.specs.Units.{statement_count, EndsWithEnd, is_main}
+use Rattle.f77_structure.specs.Ranges.{RangesNest}
 use Rattle.f77_shape.specs.Shape.{shape_of}
-use Rattle.f77_shape.specs.Units.{is_main}
 
 -- each DO statement of an accepted unit has its range, and ranges nest
 abbrev pub AcceptedRangesNest : Type 0

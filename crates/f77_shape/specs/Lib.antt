@@ -14,7 +14,5 @@ pub mod UnitTables
 pub mod Program
 pub mod Ranges
 pub mod Shape
-pub mod Stretches
 pub mod Tables
 pub mod Targets
-pub mod Units

@@ -1,8 +1,8 @@
 -- For each place of a unit, where the last of the stretches that hold it opens.
 use Rattle.std.specs.Prelude.{◌≡◌, ℕ, zero, suc, ◌==◌, ◌&&◌, Bool, not, nat_lt, max, List, [], ◌∷◌, length, slice_get, slice_index, ◌<◌, Some, if◌then◌else◌}
 use Rattle.std.specs.List.{list_any}
-use Rattle.f77_shape.specs.declared.stretches.Stretch.{Stretch}
-use Rattle.f77_shape.specs.Stretches.{holds}
+use Rattle.f77_structure.specs.declared.stretches.Stretch.{Stretch}
+use Rattle.f77_structure.specs.Stretches.{holds}
 
 -- whether a stretch holds a place, and opens at another one or behind it
 abbrev pub opens_behind : (from to : ℕ) → Stretch → Bool

@@ -4,8 +4,8 @@ use Rattle.std.specs.List.{list_any}
 use Rattle.f77_ast.specs.declared.program.Listed.{Listed}
 use Rattle.f77_ast.specs.declared.stmt.Stmt.{Stmt}
 use Rattle.f77_ast.specs.declared.stmt.Stmt as stmt
-use Rattle.f77_shape.specs.Labels.{inner_of}
-use Rattle.f77_shape.specs.Units.{is_main}
+use Rattle.f77_structure.specs.Statements.{inner_of}
+use Rattle.f77_structure.specs.Units.{is_main}
 
 -- the part of a unit in which a statement stands: 1 for PROGRAM, SUBROUTINE and FUNCTION, 2 for IMPLICIT and PARAMETER, 3
 -- for the other declarations, 4 for DATA and executable statements

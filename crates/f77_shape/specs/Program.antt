@@ -6,7 +6,8 @@ use Rattle.f77_ast.specs.declared.program.Unit.{Unit as ProgramUnit}
 use Rattle.f77_ast.specs.declared.refusal.Refusal.{Refusal}
 use Rattle.f77_cards.specs.Cards.{when}
 use Rattle.f77_shape.specs.Breaks.{at}
-use Rattle.f77_shape.specs.Units.{is_end, is_main}
+use Rattle.f77_structure.specs.Statements.{is_end}
+use Rattle.f77_structure.specs.Units.{is_main}
 
 -- code 54 at line 1
 abbrev pub no_program : Refusal

@@ -2,11 +2,11 @@
 use Rattle.std.specs.Prelude.{ℕ, Bool, true, false, ◌&&◌, ◌||◌, not, nat_lt, List, Option, None, Some, slice_get}
 use Rattle.std.specs.List.{list_any}
 use Rattle.f77_ast.specs.declared.program.Listed.{Listed}
-use Rattle.f77_meaning.specs.Loops.{terminal_label}
-use Rattle.f77_meaning.specs.Ranges.{may_end_range}
-use Rattle.f77_shape.specs.Labels.{target_in}
-use Rattle.f77_shape.specs.declared.stretches.Stretch.{Stretch}
-use Rattle.f77_shape.specs.Stretches.{holds, ranges_of, blocks_of}
+use Rattle.f77_structure.specs.Statements.{terminal_label, may_end_range}
+use Rattle.f77_structure.specs.Labels.{target_in}
+use Rattle.f77_structure.specs.declared.stretches.Stretch.{Stretch}
+use Rattle.f77_structure.specs.Blocks.{blocks_of}
+use Rattle.f77_structure.specs.Stretches.{holds, ranges_of}
 
 -- whether there is a statement, and it may be a terminal statement
 abbrev pub may_end : Option Listed → Bool

@@ -13,7 +13,7 @@ use Rattle.f77_shape.specs.Limits.{statement_breaks, unit_breaks, name_breaks}
 use Rattle.f77_shape.specs.Order.{is_out_of_order}
 use Rattle.f77_shape.specs.Program.{main_breaks, end_breaks}
 use Rattle.f77_shape.specs.Ranges.{breaks_range}
-use Rattle.f77_shape.specs.Units.{units_of}
+use Rattle.f77_structure.specs.Units.{units_of}
 
 -- what is broken in the statements of one unit: codes 50 to 53, 55 and 57
 abbrev pub breaks_in : List Listed → List Refusal

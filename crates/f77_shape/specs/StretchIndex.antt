@@ -1,9 +1,9 @@
 -- The stretches of a unit, with tables that tell at once whether one of them holds a place and not another.
 use Rattle.std.specs.Prelude.{◌≡◌, ℕ, ◌-◌, Bool, ◌&&◌, nat_lt, List, map, if◌then◌else◌}
 use Rattle.f77_shape.specs.declared.stretch_index.StretchIndex.{StretchIndex}
-use Rattle.f77_shape.specs.declared.stretches.Stretch.{Stretch}
+use Rattle.f77_structure.specs.declared.stretches.Stretch.{Stretch}
 use Rattle.f77_shape.specs.Openers.{AreOpeners}
-use Rattle.f77_shape.specs.Stretches.{holds}
+use Rattle.f77_structure.specs.Stretches.{holds}
 
 -- whether a stretch holds a place, and ends before another
 abbrev pub ends_before : (from to : ℕ) → Stretch → Bool

@@ -3,7 +3,7 @@ use Rattle.std.specs.Prelude.{◌≡◌, ℕ, List, Option, nat_eq}
 use Rattle.std.specs.HashMap.{get}
 use Rattle.f77_ast.specs.declared.program.Listed.{Listed}
 use Rattle.f77_shape.specs.declared.targets.Targets.{Targets}
-use Rattle.f77_shape.specs.Labels.{target_in}
+use Rattle.f77_structure.specs.Labels.{target_in}
 
 -- the place that is noted for a label
 abbrev pub place_of : Targets → (label : ℕ) → Option ℕ

@@ -3,7 +3,8 @@ use Rattle.std.specs.Prelude.{List}
 use Rattle.f77_ast.specs.declared.program.Listed.{Listed}
 use Rattle.f77_shape.specs.declared.unit_tables.UnitTables.{UnitTables}
 use Rattle.f77_shape.specs.StretchIndex.{IsStretchIndex}
-use Rattle.f77_shape.specs.Stretches.{ranges_of, blocks_of}
+use Rattle.f77_structure.specs.Blocks.{blocks_of}
+use Rattle.f77_structure.specs.Stretches.{ranges_of}
 use Rattle.f77_shape.specs.Targets.{AreTargets}
 
 -- the tables are those of a unit

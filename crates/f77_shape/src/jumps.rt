@@ -4,7 +4,7 @@ ghost use Rattle.std.specs.List.{list_any};
 ghost use Rattle.f77_cards.specs.Cards.{first_of};
 ghost use Rattle.f77_shape.specs.Breaks.{broken_by};
 ghost use Rattle.f77_shape.specs.Jumps.{enters, jumps_in};
-ghost use Rattle.f77_shape.specs.Labels.{gone_to, jumps_of, target_in};
+ghost use Rattle.f77_structure.specs.Labels.{gone_to, jumps_of, target_in};
 ghost use Rattle.f77_shape.specs.UnitTables.{AreUnitTables};
 ghost use Rattle.f77_ast.specs.declared.program.Listed.{Listed};
 ghost use Rattle.std.specs.Prelude.{List};

@@ -4,9 +4,10 @@ ghost use Rattle.std.specs.HashSet.{contains};
 ghost use Rattle.std.specs.List.{list_any};
 ghost use Rattle.std.specs.Option.{option_to_list};
 ghost use Rattle.f77_cards.specs.Cards.{first_of};
-ghost use Rattle.f77_meaning.specs.Loops.{terminal_label, is_label};
+ghost use Rattle.f77_structure.specs.Labels.{is_label, gone_to, labels_of};
+ghost use Rattle.f77_structure.specs.Statements.{terminal_label};
 ghost use Rattle.f77_shape.specs.Breaks.{broken_by};
-ghost use Rattle.f77_shape.specs.Labels.{gone_to, labels_of, misses_label, doubles_label};
+ghost use Rattle.f77_shape.specs.Labels.{misses_label, doubles_label};
 ghost use Rattle.f77_shape.specs.Targets.{AreTargets};
 ghost use Rattle.f77_shape.specs.Tables.{lacks, is_seen};
 

@@ -2,7 +2,7 @@
 ghost use Rattle.std.specs.Prelude.{◌≡◌, ◌&&◌, ◌||◌, not, [], if◌then◌else◌};
 ghost use Rattle.f77_cards.specs.Cards.{first_of, when};
 ghost use Rattle.f77_shape.specs.Program.{no_program, first_refused, main_breaks, end_breaks};
-ghost use Rattle.f77_shape.specs.Units.{is_main};
+ghost use Rattle.f77_structure.specs.Units.{is_main};
 
 use crate::breaks::{NO_PROGRAM, refused_if, sooner};
 use crate::units::{is_end, is_main};

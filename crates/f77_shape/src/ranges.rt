@@ -2,10 +2,9 @@
 ghost use Rattle.std.specs.Prelude.{◌≡◌, ◌<◌, ◌-◌, ◌^◌, List, length, slice_get, ◌||◌, Some};
 ghost use Rattle.f77_ast.specs.declared.program.Listed.{Listed};
 ghost use Rattle.f77_cards.specs.Cards.{first_of};
-ghost use Rattle.f77_meaning.specs.Loops.{terminal_label};
-ghost use Rattle.f77_meaning.specs.Ranges.{may_end_range};
+ghost use Rattle.f77_structure.specs.Statements.{terminal_label, may_end_range};
 ghost use Rattle.f77_shape.specs.Breaks.{broken_by};
-ghost use Rattle.f77_shape.specs.Labels.{target_in};
+ghost use Rattle.f77_structure.specs.Labels.{target_in};
 ghost use Rattle.f77_shape.specs.UnitTables.{AreUnitTables};
 ghost use Rattle.f77_shape.specs.Ranges.{may_end, crosses_a_range, leaves_a_block, breaks_to, breaks_with, breaks_range};
 

@@ -1,7 +1,7 @@
 //! The DO ranges or the IF blocks of a unit, with tables that tell at once whether one holds a place and not another.
 ghost use Rattle.std.specs.Prelude.{◌≡◌, List, map, IfOk, slice_get};
 ghost use Rattle.std.specs.List.{list_any};
-ghost use Rattle.f77_shape.specs.declared.stretches.Stretch.{Stretch as AStretch};
+ghost use Rattle.f77_structure.specs.declared.stretches.Stretch.{Stretch as AStretch};
 ghost use Rattle.f77_shape.specs.StretchIndex.{IsStretchIndex, ends_before, mirrored};
 ghost use Rattle.f77_shape.specs.Jumps.{is_entered};
 ghost use Rattle.f77_shape.specs.Openers.{opens_behind};

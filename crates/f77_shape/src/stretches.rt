@@ -3,9 +3,9 @@ ghost use Rattle.std.specs.Prelude.{◌≡◌, ◌++◌, List, [], ◌∷◌, re
 ghost use Rattle.std.specs.List.{list_any};
 ghost use Rattle.std.specs.Option.{option_to_list, option_and_then};
 ghost use Rattle.f77_ast.specs.declared.program.Listed.{Listed};
-ghost use Rattle.f77_meaning.specs.Loops.{terminal_label};
-ghost use Rattle.f77_shape.specs.Blocks.{ends_block, parts_behind};
-ghost use Rattle.f77_shape.specs.Stretches.{holds, range_to, ranges_of, block_before, blocks_of};
+ghost use Rattle.f77_structure.specs.Statements.{terminal_label};
+ghost use Rattle.f77_structure.specs.Blocks.{ends_block, parts_behind, block_before, blocks_of};
+ghost use Rattle.f77_structure.specs.Stretches.{holds, range_to, ranges_of};
 ghost use Rattle.f77_shape.specs.Targets.{place_of, AreTargets};
 
 use crate::targets::{Targets, terminal_label};

@@ -1,8 +1,7 @@
 //! The labels that statements name, and the statements that they mean.
 ghost use Rattle.std.specs.Prelude.{◌≡◌, ℕ, Some, None, IfOk, OnOk, if◌then◌else◌};
-ghost use Rattle.f77_meaning.specs.Loops.{terminal_label, has_label};
-ghost use Rattle.f77_meaning.specs.Process.{is_executable};
-ghost use Rattle.f77_shape.specs.Labels.{inner_of};
+ghost use Rattle.f77_structure.specs.Labels.{has_label};
+ghost use Rattle.f77_structure.specs.Statements.{terminal_label, is_executable, inner_of};
 ghost use Rattle.f77_shape.specs.Targets.{place_of, AreTargets};
 
 use f77_ast::program::Listed;

@@ -1,6 +1,7 @@
 //! How the statements of a file are cut into program units.
 ghost use Rattle.std.specs.Prelude.{◌≡◌, ◌++◌, IfOk, map};
-ghost use Rattle.f77_shape.specs.Units.{is_end, begins_subprogram, is_main, header_name, name_of, unit_of, without_end, units_of};
+ghost use Rattle.f77_structure.specs.Statements.{is_end, begins_subprogram, header_name};
+ghost use Rattle.f77_structure.specs.Units.{is_main, name_of, unit_of, without_end, units_of};
 
 use f77_ast::code::Code;
 use f77_ast::name::Name;

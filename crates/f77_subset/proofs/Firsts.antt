@@ -8,7 +8,7 @@ use Rattle.std.proofs.lemmas.List.Elements.{filter-append}
 use Rattle.f77_ast.specs.Entity.{entity_in}
 use Rattle.f77_ast.specs.declared.specification.Bound.{Bound}
 use Rattle.f77_ast.specs.declared.specification.Declarator.{Declarator}
-use Rattle.f77_meaning.specs.Storage.{storage_units_by}
+use Rattle.f77_structure.specs.Storage.{storage_units_by}
 use Rattle.f77_subset.specs.Names.{is_of, firsts}
 use Rattle.f77_subset.specs.Rules.{storage_limit}
 use Rattle.f77_subset.specs.Storage.{total_units, entity_at, entities_from, regions_from}

@@ -17,9 +17,9 @@ use Rattle.f77_ast.specs.declared.program.Layout.{Layout}
 use Rattle.f77_ast.specs.declared.stmt.Item.{Item, Plain}
 use Rattle.f77_ast.specs.declared.stmt.LoopControl.{LoopControl}
 use Rattle.f77_ast.specs.declared.stmt.Stmt.{Stmt, Assign, Do, Print}
-use Rattle.f77_meaning.specs.Arrays.{if_array, array_named, array_of_ref, array_step, array_part, array_ref}
-use Rattle.f77_meaning.specs.Resolves.{resolves, ref_resolves, resolves_step, resolves_part, resolves_ref, resolves_to, items_resolve, increment_resolves, control_resolves, statement_resolves}
-use Rattle.f77_meaning.specs.Storage.{is_scalar, is_vector}
+use Rattle.f77_structure.specs.Arrays.{if_array, array_named, array_of_ref, array_step, array_part, array_ref}
+use Rattle.f77_structure.specs.Resolves.{resolves, ref_resolves, resolves_step, resolves_part, resolves_ref, resolves_to, items_resolve, increment_resolves, control_resolves, statement_resolves}
+use Rattle.f77_structure.specs.Storage.{is_scalar, is_vector}
 use Rattle.f77_subset.specs.declared.mention.Mention.{Mention}
 use Rattle.f77_subset.specs.declared.mention.Standing.{Standing}
 use Rattle.f77_subset.specs.declared.mention.Standing.TheVariants.{Variable, Element, WholeItem}

@@ -17,8 +17,8 @@ use Rattle.f77_ast.specs.declared.refusal.Refusal.{Refusal}
 use Rattle.f77_ast.specs.declared.specification.Bound.{Bound}
 use Rattle.f77_ast.specs.declared.specification.Declarator.{Declarator}
 use Rattle.f77_ast.specs.declared.stmt.Stmt.{Stmt, Declare}
-use Rattle.f77_meaning.specs.Resolves.{statement_resolves}
-use Rattle.f77_meaning.specs.Storage.{storage_units_by, is_scalar, is_vector, storage_units_of_all, region_of, LiesIn, IsStorage, IsLaidOut}
+use Rattle.f77_structure.specs.Resolves.{statement_resolves}
+use Rattle.f77_structure.specs.Storage.{storage_units_by, is_scalar, is_vector, storage_units_of_all, region_of, LiesIn, IsStorage, IsLaidOut}
 use Rattle.f77_subset.specs.declared.mention.Mention.{Mention}
 use Rattle.f77_subset.specs.declared.mention.Standing.{Standing}
 use Rattle.f77_subset.specs.declared.mention.Standing.TheVariants.{Variable, Element, WholeItem}

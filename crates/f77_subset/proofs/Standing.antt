@@ -11,7 +11,7 @@ use Rattle.f77_ast.specs.Entity.{entity_in}
 use Rattle.f77_ast.specs.declared.program.Entity.{Entity}
 use Rattle.f77_ast.specs.declared.specification.Declarator.{Declarator}
 use Rattle.f77_ast.specs.declared.stmt.Stmt.{Stmt, Program}
-use Rattle.f77_meaning.specs.Storage.{storage_units_by}
+use Rattle.f77_structure.specs.Storage.{storage_units_by}
 use Rattle.f77_subset.specs.declared.mention.Mention.{Mention}
 use Rattle.f77_subset.specs.declared.table.Table.{Table}
 use Rattle.f77_subset.specs.Names.{mentioned_in, declared_in, is_program_of, is_of, undeclared, appearing_in, names_of, declarations}

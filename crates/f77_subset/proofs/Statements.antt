@@ -5,7 +5,7 @@ use Rattle.std.proofs.lemmas.List.{append-nil}
 use Rattle.f77_ast.specs.declared.specification.Declarator.{Declarator}
 use Rattle.f77_ast.specs.declared.specification.TypedDeclarator.{TypedDeclarator}
 use Rattle.f77_ast.specs.declared.stmt.Stmt.{Stmt, Program, Declare}
-use Rattle.f77_meaning.specs.Storage.{storage_units_by}
+use Rattle.f77_structure.specs.Storage.{storage_units_by}
 use Rattle.f77_subset.specs.declared.table.Table.{Table}
 use Rattle.f77_subset.specs.Names.{mentioned_in, declared_in, undeclared, firsts}
 use Rattle.f77_subset.specs.Rules.{may_declare, may_mention, declares_once, names_keep, storage_keeps}

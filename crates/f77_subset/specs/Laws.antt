@@ -3,8 +3,8 @@ use Rattle.std.specs.Prelude.{◌≡◌, List, All, IsTrue, Ok}
 use Rattle.f77_ast.specs.declared.program.Layout.{Layout}
 use Rattle.f77_ast.specs.declared.program.Loop.{Loop}
 use Rattle.f77_ast.specs.declared.program.Unit.{Unit as ProgramUnit}
-use Rattle.f77_meaning.specs.Resolves.{statement_resolves}
-use Rattle.f77_meaning.specs.Storage.{IsStorage, IsLaidOut}
+use Rattle.f77_structure.specs.Resolves.{statement_resolves}
+use Rattle.f77_structure.specs.Storage.{IsStorage, IsLaidOut}
 use Rattle.f77_subset.specs.Built.{is_built}
 use Rattle.f77_subset.specs.Subset.{listing_of, subset_of}
 

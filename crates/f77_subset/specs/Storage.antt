@@ -6,7 +6,7 @@ use Rattle.f77_ast.specs.declared.program.Layout.{Layout}
 use Rattle.f77_ast.specs.declared.program.Place.TheVariants.{Stored}
 use Rattle.f77_ast.specs.declared.program.Region.{Region}
 use Rattle.f77_ast.specs.declared.specification.Declarator.{Declarator}
-use Rattle.f77_meaning.specs.Storage.{storage_units_by}
+use Rattle.f77_structure.specs.Storage.{storage_units_by}
 
 -- the storage units of some names
 abbrev pub total_units : List Declarator → ℕ

@@ -9,7 +9,7 @@ use Rattle.f77_ast.specs.declared.program.Layout.{Layout}
 use Rattle.f77_ast.specs.declared.specification.Declarator.{Declarator}
 use Rattle.f77_ast.specs.declared.specification.TypedDeclarator.{TypedDeclarator}
 use Rattle.f77_ast.specs.declared.stmt.Stmt.{Stmt, Declare, Program}
-use Rattle.f77_meaning.specs.Storage.{storage_units_by}
+use Rattle.f77_structure.specs.Storage.{storage_units_by}
 use Rattle.f77_subset.specs.declared.broken.Broken.{Broken}
 use Rattle.f77_subset.specs.declared.broken.Broken.TheVariants.{Rule}
 use Rattle.f77_subset.specs.declared.mention.Mention.{Mention}

@@ -1,7 +1,7 @@
 //! One pass over the statements of a file: the table of their names, and their DO variables.
 ghost use Rattle.std.specs.Prelude.{◌≡◌, ◌≤◌, ◌<◌, ◌+◌, ◌^◌, length, Ok, Err, Some, None, OnOk, IsErrOf, slice_get};
 ghost use Rattle.f77_ast.specs.declared.refusal.Refusal.{Refusal};
-ghost use Rattle.f77_meaning.specs.Loops.{statement_count};
+ghost use Rattle.f77_structure.specs.Units.{statement_count};
 ghost use Rattle.f77_subset.specs.Pass as spec;
 
 use crate::broken::Broken;

@@ -1,7 +1,7 @@
 //! Whether a file is built by now.
 ghost use Rattle.std.specs.Prelude.{◌≡◌, ◌+◌, ◌<◌, ◌^◌, Ok, Err, IfOk, IsErrOf};
 ghost use Rattle.f77_ast.specs.declared.refusal.Refusal.{Refusal};
-ghost use Rattle.f77_meaning.specs.Loops.{statement_count};
+ghost use Rattle.f77_structure.specs.Units.{statement_count};
 ghost use Rattle.f77_subset.specs.Subset.{subset_of};
 
 use crate::pass::Pass;

@@ -2,7 +2,7 @@
 ghost use Rattle.std.specs.Prelude.{◌≡◌, ◌≤◌, ◌+◌, [], OnOk, IfOk, None, true};
 ghost use Rattle.std.specs.List.{list_all};
 ghost use Rattle.f77_ast.specs.Entity.{entity_in};
-ghost use Rattle.f77_meaning.specs.Storage.{storage_units_by};
+ghost use Rattle.f77_structure.specs.Storage.{storage_units_by};
 ghost use Rattle.f77_subset.specs.Built.{bounds_are_built, entity_is_built, is_built};
 ghost use Rattle.f77_subset.specs.Names.{mentioned_in};
 ghost use Rattle.f77_subset.specs.Rules.{begins_integer, are_bounds, storage_limit};

@@ -1,6 +1,6 @@
 //! The storage units of a name (ANSI X3.9-1978, sections 2.13 and 5.2.5).
 ghost use Rattle.std.specs.Prelude.{◌≡◌, IfOk, true, [], ◌∷◌};
-ghost use Rattle.f77_meaning.specs.Storage.{storage_units_by, extent_of};
+ghost use Rattle.f77_structure.specs.Storage.{storage_units_by, extent_of};
 ghost use Rattle.f77_subset.specs.Built.{bounds_are_built};
 ghost use Rattle.f77_subset.specs.Units as spec;
 

@@ -1,6 +1,6 @@
 //! The calls of the front end, one after another, up to the one whose result is shown.
 ghost use Rattle.std.specs.Prelude.{◌+◌, ◌^◌, ◌<◌, IsTrue};
-ghost use Rattle.f77_meaning.specs.Loops.{statement_count};
+ghost use Rattle.f77_structure.specs.Units.{statement_count};
 
 use f77_ast::program::{Layout, Listed, Listing, Loops, Units};
 use f77_ast::refusal::{FrontError, Refusal};

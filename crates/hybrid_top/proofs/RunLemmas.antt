@@ -9,7 +9,8 @@ use Rattle.f77_ast.specs.declared.step.Stepped.{Stepped}
 use Rattle.f77_ast.specs.declared.step.Stepped.TheVariants as step
 use Rattle.f77_meaning.specs.StepOutcome.{outcome_of_step, outcome_from}
 use Rattle.f77_meaning.specs.Print.{line_limit}
-use Rattle.f77_meaning.specs.Process.{listed_at, source_line}
+use Rattle.f77_structure.specs.Units.{source_line}
+use Rattle.f77_meaning.specs.Process.{listed_at}
 use Rattle.f77_meaning.specs.Run.{Run, run_from, one_more, Ended, Faulted}
 use Rattle.f77_meaning.proofs.Runs.{stepped_run, run_from-step}
 use Rattle.f77_io.specs.declared.line.Line.{Line}

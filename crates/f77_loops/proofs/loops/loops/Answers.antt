@@ -1,8 +1,8 @@
 use Rattle.std.proofs.Common.{◌≡◌, sym, subst, arith}
 use Rattle.std.proofs.lemmas.Grind.{common_steps}
 use Rattle.f77_ast.specs.Loop.{IsNumbered}
-use Rattle.f77_meaning.specs.Loops.{loops_of}
-use Rattle.f77_meaning.proofs.LoopLemmas.{loops_of-numbered}
+use Rattle.f77_structure.specs.Loops.{loops_of}
+use Rattle.f77_structure.proofs.LoopLemmas.{loops_of-numbered}
 use Rattle.f77_loops.proofs.loops.loops.Goals as goal
 
 pub returns-clause-numbered : goal.returns-clause-numbered

@@ -1,5 +1,6 @@
 use Rattle.std.proofs.Common.{◌≡◌, ◌+◌, ◌<◌, ◌++◌, length, drop}
-use Rattle.f77_meaning.specs.Loops.{loops_among, loops_of, statement_count}
+use Rattle.f77_structure.specs.Loops.{loops_among, loops_of}
+use Rattle.f77_structure.specs.Units.{statement_count}
 use Rattle.f77_loops.proofs.loops.loops.Given as goal
 
 abbrev pub invariant-loop-unit : goal.invariant-loop-unit

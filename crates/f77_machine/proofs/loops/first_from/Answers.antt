@@ -1,6 +1,6 @@
 use Rattle.std.proofs.Common.{ltb, arith, rules}
 use Rattle.std.proofs.lemmas.List.Sorted.{IsPartitionPoint-from_clause, IsPartitionedBy-ltb}
-use Rattle.f77_meaning.proofs.Rising.{sorted_from_rise}
+use Rattle.f77_structure.proofs.Rising.{sorted_from_rise}
 use Rattle.f77_machine.proofs.loops.first_from.Goals as goal
 
 -- the loops are sorted by where their ranges begin

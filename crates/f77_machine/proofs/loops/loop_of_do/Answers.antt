@@ -1,6 +1,6 @@
 use Rattle.std.proofs.Common.{sym, subst, ◌∙◌}
-use Rattle.f77_meaning.specs.Loops.{StartInOrder}
-use Rattle.f77_meaning.proofs.Rising.{loops_rise}
+use Rattle.f77_structure.specs.Loops.{StartInOrder}
+use Rattle.f77_structure.proofs.Rising.{loops_rise}
 use Rattle.f77_machine.proofs.loops.loop_of_do.Goals as goal
 
 -- the loops are those of the file, which rise

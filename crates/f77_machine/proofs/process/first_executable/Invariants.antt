@@ -1,5 +1,5 @@
 use Rattle.std.proofs.Common.{◌≡◌, ◌+◌, drop}
-use Rattle.f77_meaning.specs.Process.{first_executable}
+use Rattle.f77_structure.specs.Units.{first_executable}
 use Rattle.f77_machine.proofs.process.first_executable.Given as goal
 
 -- the statements so far aren't executable

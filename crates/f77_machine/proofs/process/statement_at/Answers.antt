@@ -1,6 +1,6 @@
 use Rattle.std.proofs.Common.{sym, ◌∙◌, ap, slice_get}
 use Rattle.std.specs.Option.{option_and_then}
-use Rattle.f77_meaning.proofs.Stands.{statement_in}
+use Rattle.f77_structure.proofs.UnitLemmas.{statement_in}
 use Rattle.f77_machine.proofs.process.statement_at.Goals as goal
 
 -- the statement is one of the unit

@@ -1,7 +1,7 @@
 use Rattle.std.proofs.Common.{◌≡◌, take}
 use Rattle.std.specs.List.{sum_by}
 use Rattle.f77_operands.specs.Capped.{capped}
-use Rattle.f77_operands.specs.Needs.{item_need}
+use Rattle.f77_structure.specs.Needs.{item_need}
 use Rattle.f77_operands.proofs.needs.+item_need.Given as goal
 
 abbrev pub invariant-loop-inner : goal.invariant-loop-inner

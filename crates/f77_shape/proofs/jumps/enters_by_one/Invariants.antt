@@ -2,7 +2,7 @@ use Rattle.std.proofs.Common.{◌≡◌, List, drop}
 use Rattle.std.specs.List.{list_any}
 use Rattle.f77_ast.specs.declared.program.Listed.{Listed}
 use Rattle.f77_shape.specs.Jumps.{enters}
-use Rattle.f77_shape.specs.Labels.{target_in}
+use Rattle.f77_structure.specs.Labels.{target_in}
 use Rattle.f77_shape.specs.UnitTables.{AreUnitTables}
 use Rattle.f77_shape.proofs.jumps.enters_by_one.Given as goal
 

@@ -1,7 +1,7 @@
 use Rattle.std.proofs.Common.{ap, ◌∙◌}
 use Rattle.std.specs.List.{list_any}
 use Rattle.f77_shape.specs.Jumps.{enters, jumps_in}
-use Rattle.f77_shape.specs.Labels.{gone_to, target_in}
+use Rattle.f77_structure.specs.Labels.{gone_to, target_in}
 use Rattle.f77_shape.proofs.Firsts.{turned, first_from}
 use Rattle.f77_shape.proofs.jumps.jump_in.Goals as goal
 

@@ -1,6 +1,6 @@
 use Rattle.std.proofs.Common.{◌||◌, nat_eq, take, sym, ap, ◌∙◌}
 use Rattle.std.specs.HashSet.{contains}
-use Rattle.f77_meaning.specs.Loops.{is_label}
+use Rattle.f77_structure.specs.Labels.{is_label}
 use Rattle.f77_shape.specs.Labels.{doubles_label}
 use Rattle.f77_shape.proofs.Firsts.{turned, first_from}
 use Rattle.f77_shape.proofs.RuleLemmas.{any_more, seen_is_any}

@@ -1,7 +1,7 @@
 use Rattle.std.proofs.Common.{◌≡◌, ℕ, nat_eq, take}
 use Rattle.std.specs.HashSet.{contains}
 use Rattle.std.specs.List.{list_any}
-use Rattle.f77_meaning.specs.Loops.{is_label}
+use Rattle.f77_structure.specs.Labels.{is_label}
 use Rattle.f77_shape.specs.Breaks.{sooner}
 use Rattle.f77_shape.specs.Labels.{doubles_label}
 use Rattle.f77_shape.proofs.Firsts.{first_from}

@@ -1,6 +1,7 @@
 use Rattle.std.proofs.Common.{ap, ◌∙◌}
 use Rattle.std.specs.Option.{is_none}
-use Rattle.f77_shape.specs.Labels.{labels_of, misses_label, target_in}
+use Rattle.f77_structure.specs.Labels.{labels_of, target_in}
+use Rattle.f77_shape.specs.Labels.{misses_label}
 use Rattle.f77_shape.specs.Tables.{lacks}
 use Rattle.f77_shape.proofs.Firsts.{turned, first_from}
 use Rattle.f77_shape.proofs.RuleLemmas.{any_same}

@@ -2,7 +2,7 @@ use Rattle.std.proofs.Common.{◌≡◌, ℕ, nat_lt, take}
 use Rattle.std.specs.List.{list_any}
 use Rattle.f77_shape.specs.Breaks.{sooner}
 use Rattle.f77_shape.specs.Order.{part_of, is_out_of_order}
-use Rattle.f77_shape.specs.Units.{is_main}
+use Rattle.f77_structure.specs.Units.{is_main}
 use Rattle.f77_shape.proofs.Firsts.{first_from}
 use Rattle.f77_shape.proofs.order.wrong_order.Given as goal
 

@@ -4,7 +4,7 @@ use Rattle.std.specs.List.{list_any}
 use Rattle.f77_cards.specs.Cards.{first_of, when}
 use Rattle.f77_shape.specs.Breaks.{sooner}
 use Rattle.f77_shape.specs.Program.{first_refused, second_mains, no_program}
-use Rattle.f77_shape.specs.Units.{is_main}
+use Rattle.f77_structure.specs.Units.{is_main}
 use Rattle.f77_shape.proofs.Firsts.{sooner-none, first_of-append}
 use Rattle.f77_shape.proofs.UnitLemmas.{mains_turn, behind_turn, or_false}
 use Rattle.f77_shape.proofs.program.bad_main.Goals as goal

@@ -3,7 +3,7 @@ use Rattle.std.specs.List.{list_any}
 use Rattle.f77_cards.specs.Cards.{first_of}
 use Rattle.f77_shape.specs.Breaks.{sooner}
 use Rattle.f77_shape.specs.Program.{second_mains}
-use Rattle.f77_shape.specs.Units.{is_main}
+use Rattle.f77_structure.specs.Units.{is_main}
 use Rattle.f77_shape.proofs.program.bad_main.Given as goal
 
 abbrev pub invariant-loop-unit : goal.invariant-loop-unit

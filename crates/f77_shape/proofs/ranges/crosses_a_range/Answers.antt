@@ -1,7 +1,7 @@
 use Rattle.std.proofs.Common.{◌+◌, sym, ◌∙◌}
 use Rattle.std.specs.List.{list_any}
 use Rattle.f77_shape.specs.Jumps.{is_entered}
-use Rattle.f77_shape.specs.Stretches.{ranges_of}
+use Rattle.f77_structure.specs.Stretches.{ranges_of}
 use Rattle.f77_shape.proofs.CrossingLemmas.{any_crosses}
 use Rattle.f77_shape.proofs.OpenerLemmas.{first_of_two, second_of_two}
 use Rattle.f77_shape.proofs.ranges.crosses_a_range.Goals as goal

@@ -1,7 +1,7 @@
 use Rattle.std.proofs.Common.{sym, ◌∙◌}
 use Rattle.std.specs.List.{list_any}
 use Rattle.f77_shape.specs.Jumps.{is_entered}
-use Rattle.f77_shape.specs.Stretches.{blocks_of}
+use Rattle.f77_structure.specs.Blocks.{blocks_of}
 use Rattle.f77_shape.proofs.CrossingLemmas.{any_leaves}
 use Rattle.f77_shape.proofs.OpenerLemmas.{first_of_two, second_of_two}
 use Rattle.f77_shape.proofs.ranges.leaves_a_block.Goals as goal

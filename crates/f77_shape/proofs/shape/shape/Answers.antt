@@ -7,7 +7,7 @@ use Rattle.f77_cards.specs.Cards.{first_of}
 use Rattle.f77_shape.specs.Limits.{statement_breaks}
 use Rattle.f77_shape.specs.Program.{end_breaks}
 use Rattle.f77_shape.specs.Shape.{breaks_among, breaks_of, unless_refused, shape_of}
-use Rattle.f77_shape.specs.Units.{units_of}
+use Rattle.f77_structure.specs.Units.{units_of}
 use Rattle.f77_shape.proofs.Firsts.{joined_first}
 use Rattle.f77_shape.proofs.shape.shape.Goals as goal
 

@@ -1,5 +1,5 @@
 use Rattle.std.proofs.Common.{◌≡◌, ◌++◌, drop, reverse}
-use Rattle.f77_shape.specs.Stretches.{blocks_from, blocks_of}
+use Rattle.f77_structure.specs.Blocks.{blocks_from, blocks_of}
 use Rattle.f77_shape.proofs.stretches.blocks_of.Given as goal
 
 abbrev pub invariant-loop-place : goal.invariant-loop-place

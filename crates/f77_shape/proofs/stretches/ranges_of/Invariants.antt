@@ -1,5 +1,5 @@
 use Rattle.std.proofs.Common.{◌≡◌, ◌++◌, drop}
-use Rattle.f77_shape.specs.Stretches.{ranges_from, ranges_of}
+use Rattle.f77_structure.specs.Stretches.{ranges_from, ranges_of}
 use Rattle.f77_shape.proofs.stretches.ranges_of.Given as goal
 
 abbrev pub invariant-loop-place : goal.invariant-loop-place

@@ -1,5 +1,5 @@
 use Rattle.std.proofs.Common.{Some, if◌then◌else◌, ◌-◌, sym, ap, ◌∙◌, arith}
-use Rattle.f77_meaning.specs.Loops.{has_label}
+use Rattle.f77_structure.specs.Labels.{has_label}
 use Rattle.f77_shape.proofs.RuleLemmas.{target_back}
 use Rattle.f77_shape.proofs.targets.targets_of.Goals as goal
 

@@ -1,5 +1,5 @@
 use Rattle.std.proofs.Common.{◌≡◌, ℕ, ◌≤◌, length, drop}
-use Rattle.f77_shape.specs.Labels.{target_from}
+use Rattle.f77_structure.specs.Labels.{target_from}
 use Rattle.f77_shape.specs.Targets.{place_of}
 use Rattle.f77_shape.proofs.targets.targets_of.Given as goal
 

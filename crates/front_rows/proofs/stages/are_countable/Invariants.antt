@@ -1,5 +1,5 @@
 use Rattle.std.proofs.Common.{◌≡◌, ◌+◌, ◌≤◌, drop}
-use Rattle.f77_meaning.specs.Loops.{statement_count}
+use Rattle.f77_structure.specs.Units.{statement_count}
 use Rattle.front_rows.proofs.stages.are_countable.Given as goal
 
 abbrev pub invariant-loop-unit : goal.invariant-loop-unit

@@ -1,6 +1,6 @@
 use Rattle.std.proofs.Common.{length, sym, subst, arith, IsSome}
 use Rattle.f77_meaning.proofs.Stands.{IsOf-first}
-use Rattle.f77_meaning.specs.Process.{listing_of, statement_at}
+use Rattle.f77_structure.specs.Units.{listing_of, statement_at}
 use Rattle.f77_meaning.specs.Sound.{AreActive}
 use Rattle.f77_machine.specs.Active.{actives_of}
 use Rattle.f77_machine.proofs.process.Process.new.Goals as goal

@@ -1,5 +1,5 @@
 use Rattle.std.proofs.Common.{◌≡◌, ◌+◌, drop}
-use Rattle.f77_meaning.specs.Loops.{statement_count}
+use Rattle.f77_structure.specs.Units.{statement_count}
 use Rattle.f77_subset.specs.Pass.{units_taken}
 use Rattle.f77_subset.proofs.pass.Pass.take_units.Given as goal
 

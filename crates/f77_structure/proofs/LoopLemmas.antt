@@ -5,7 +5,8 @@ use Rattle.f77_ast.specs.declared.program.Listed.{Listed}
 use Rattle.f77_ast.specs.declared.program.Loop.{Loop}
 use Rattle.f77_ast.specs.declared.program.Unit.{Unit as ProgramUnit}
 use Rattle.f77_ast.specs.Loop.{IsNumbered}
-use Rattle.f77_meaning.specs.Loops.{terminal_label, loop_from, loops_in, loops_among, loops_of}
+use Rattle.f77_structure.specs.Loops.{loop_from, loops_in, loops_among, loops_of}
+use Rattle.f77_structure.specs.Statements.{terminal_label}
 
 -- some loops stand in the order of their ordinals, which count from this one
 pub record AreNumberedFrom (ordinal : ℕ) (loops : List Loop) : Type 0 where

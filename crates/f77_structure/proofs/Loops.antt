@@ -4,9 +4,11 @@ use Rattle.std.specs.Option.{option_map_or}
 use Rattle.f77_ast.specs.declared.program.Listed.{Listed}
 use Rattle.f77_ast.specs.declared.program.Loop.{Loop}
 use Rattle.f77_ast.specs.declared.program.Unit.{Unit as ProgramUnit}
-use Rattle.f77_meaning.specs.Loops.{terminal_label, distance_to, loop_from, loops_in, loops_among, loops_of, loop_with_range_from, statements_before, statement_number}
-use Rattle.f77_meaning.specs.Process.{listing_of}
-use Rattle.f77_meaning.specs.Ranges.{IsDo}
+use Rattle.f77_structure.specs.Labels.{distance_to}
+use Rattle.f77_structure.specs.Loops.{loop_from, loops_in, loops_among, loops_of, loop_with_range_from}
+use Rattle.f77_structure.specs.Statements.{terminal_label}
+use Rattle.f77_structure.specs.Units.{statements_before, statement_number, listing_of}
+use Rattle.f77_structure.specs.Ranges.{IsDo}
 
 -- the loop of the DO statement `number` of the file, which names this label and is followed by these statements, is found
 pub record Found (loops : List Loop) (number label : ℕ) (following : List Listed) : Type 0 where

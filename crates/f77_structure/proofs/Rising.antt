@@ -6,8 +6,9 @@ use Rattle.std.specs.Option.{option_map_or}
 use Rattle.f77_ast.specs.declared.program.Listed.{Listed}
 use Rattle.f77_ast.specs.declared.program.Loop.{Loop}
 use Rattle.f77_ast.specs.declared.program.Unit.{Unit as ProgramUnit}
-use Rattle.f77_meaning.specs.Loops.{terminal_label, loop_from, loops_in, loops_among, loops_of, loop_with_range_from, StartInOrder, statements_before, statement_count}
-use Rattle.f77_meaning.specs.Process.{listing_of}
+use Rattle.f77_structure.specs.Loops.{loop_from, loops_in, loops_among, loops_of, loop_with_range_from, StartInOrder}
+use Rattle.f77_structure.specs.Statements.{terminal_label}
+use Rattle.f77_structure.specs.Units.{statements_before, statement_count, listing_of}
 
 rise_lower : (low lower : ℕ) (loops : List Loop) → lower ≤ low → StartInOrder low loops → StartInOrder lower loops
 rise_lower low lower [] h r = tt

@@ -8,7 +8,7 @@ use Rattle.f77_ast.specs.declared.expr.Expr.TheOpen as layer
 use Rattle.f77_ast.specs.declared.expr.Ref.{Ref}
 use Rattle.f77_ast.specs.declared.program.Entity.{Entity}
 use Rattle.f77_ast.specs.declared.program.Layout.{Layout}
-use Rattle.f77_meaning.specs.Storage.{is_vector}
+use Rattle.f77_structure.specs.Storage.{is_vector}
 
 -- an entity that is an array of one dimension; more dimensions have no meaning yet
 abbrev pub if_array : Option Entity → Option Entity
@@ -28,13 +28,18 @@ array_part part = tt
 
 -- only a reference is a name: one in parentheses, or with an operator, is none
 abbrev pub array_step : Expr-F (Option Entity) (Unit {0}) (Option Entity) → Option Entity
+array_step (layer.Int number) = None
+array_step (layer.Truth value) = None
+array_step (layer.Chars text) = None
 array_step (layer.Ref ref) = ref
-array_step _ = None
+array_step (layer.Unary op operand) = None
+array_step (layer.Binary op left right) = None
+array_step (layer.Paren inner) = None
 
 -- the array of a unit that an expression names as a whole: its name stands alone
 abbrev pub array_named : Layout → (unit : ℕ) → Expr → Option Entity
 array_named layout unit = fold-Expr (Option Entity) (Unit {0}) (Option Entity) array_step array_part (array_ref layout unit)
 
--- the same of a reference
+-- the array of a unit that a reference names as a whole
 abbrev pub array_of_ref : Layout → (unit : ℕ) → Ref → Option Entity
 array_of_ref layout unit = fold-Ref (Option Entity) (Unit {0}) (Option Entity) array_step array_part (array_ref layout unit)

@@ -1,25 +1,8 @@
 -- How the ranges of DO-loops lie in a unit (ANSI X3.9-1978, sections 11.10 and 11.10.1).
-use Rattle.std.specs.Prelude.{◌≡◌, ℕ, ◌+◌, ◌<◌, ◌≤◌, Bool, false, List, drop, Some, IsTrue, slice_get}
+use Rattle.std.specs.Prelude.{◌≡◌, ℕ, ◌+◌, ◌<◌, ◌≤◌, List, drop, Some, IsTrue, slice_get}
 use Rattle.f77_ast.specs.declared.program.Listed.{Listed}
-use Rattle.f77_ast.specs.declared.stmt.Stmt.{Stmt}
-use Rattle.f77_ast.specs.declared.stmt.Stmt as stmt
-use Rattle.f77_meaning.specs.Loops.{terminal_label, distance_to}
-use Rattle.f77_meaning.specs.Process.{is_executable}
-
--- whether a statement may be the terminal statement of a DO-loop: it is executable, and no unconditional GO TO, arithmetic
--- IF, block IF, ELSE IF, ELSE, END IF, RETURN, STOP, END or DO (section 11.10)
-abbrev pub may_end_range : Stmt → Bool
-may_end_range (stmt.Goto label) = false
-may_end_range (stmt.ArithmeticIf value negative zeroth positive) = false
-may_end_range (stmt.BlockIf condition) = false
-may_end_range (stmt.ElseIf condition) = false
-may_end_range stmt.Else = false
-may_end_range stmt.EndIf = false
-may_end_range stmt.Return = false
-may_end_range (stmt.Stop code) = false
-may_end_range stmt.End = false
-may_end_range (stmt.Do terminal control) = false
-may_end_range other = is_executable other
+use Rattle.f77_structure.specs.Labels.{distance_to}
+use Rattle.f77_structure.specs.Statements.{terminal_label, may_end_range}
 
 -- at this place of a unit stands a DO statement that names this label
 pub record IsDo (listing : List Listed) (at label : ℕ) : Type 0 where

@@ -1,0 +1,68 @@
+-- The statements of units, by their places.
+use Rattle.std.proofs.Common.{◌≡◌, ℕ, zero, suc, ◌+◌, ◌≤◌, List, [], ◌∷◌, ◌++◌, All, Some, IsSome, IsTrue, refl, sym, ap, subst, ◌∙◌, arith, slice_get, Bool, true, false, not, cond}
+use Rattle.std.specs.Option.{option_and_then}
+use Rattle.f77_ast.specs.declared.program.Listed.{Listed}
+use Rattle.f77_ast.specs.declared.program.Unit.{Unit as ProgramUnit}
+use Rattle.f77_ast.specs.declared.stmt.Stmt.{Stmt, End}
+use Rattle.f77_structure.specs.Statements.{is_executable, may_end_range}
+use Rattle.f77_structure.specs.Units.{listing_of, first_executable, EndsWithEnd}
+
+-- whether control goes on after a statement: after all but END
+abbrev pub goes_on : Stmt → Type 0
+goes_on End = ⊥
+goes_on _ = Unit {0}
+
+-- a terminal statement is no END
+pub terminal_goes_on : (s : Stmt) → IsTrue (may_end_range s) → goes_on s
+terminal_goes_on End e = absurd (cc)
+terminal_goes_on _ e = tt
+
+-- after such a statement of statements that end with END comes a statement
+pub after_one : (before : List Listed) (last listed : Listed) (at : ℕ) → last.stmt ≡ End → slice_get (before ++ last ∷ []) at ≡ Some listed → goes_on listed.stmt → IsSome (slice_get (before ++ last ∷ []) (at + 1))
+after_one [] last listed zero e h p =
+    let same : last ≡ listed = cc in
+    let ends : listed.stmt ≡ End = ap (λ l. l.stmt) (sym same) ∙ e in
+    absurd (subst goes_on ends p)
+after_one [] last listed (suc at) e h p = absurd cc
+after_one (b ∷ []) last listed zero e h p = refl
+after_one (b ∷ c ∷ before) last listed zero e h p = refl
+after_one (b ∷ before) last listed (suc at) e h p =
+    let next : suc (at + 1) ≡ suc at + 1 = omega arith in
+    subst (λ n. IsSome (slice_get (b ∷ (before ++ last ∷ [])) n)) next (after_one before last listed at e h p)
+
+-- the same of the statements of a unit
+pub after_in : (listing : List Listed) (listed : Listed) (at : ℕ) → EndsWithEnd listing → slice_get listing at ≡ Some listed → goes_on listed.stmt → IsSome (slice_get listing (at + 1))
+after_in listing listed at ended h p =
+    let there : slice_get (ended.before ++ ended.last ∷ []) at ≡ Some listed = subst (λ xs. slice_get xs at ≡ Some listed) ended.joined h in
+    subst (λ xs. IsSome (slice_get xs (at + 1))) (sym ended.joined) (after_one ended.before ended.last listed at ended.is_end there p)
+
+-- what holds of the statements of each unit holds of those of a unit that has some
+pub of_unit : (P : List Listed → Type 0) (units : List ProgramUnit) (u at : ℕ) (listed : Listed) → All (λ unit. P unit.listing) units → slice_get (listing_of units u) at ≡ Some listed → P (listing_of units u)
+of_unit P [] u at listed all e = absurd (cc)
+of_unit P (first ∷ units) zero at listed all e = all 0 first (omega arith)
+of_unit P (first ∷ units) (suc u) at listed all e = of_unit P units u at listed (λ k d h. all (suc k) d (omega (arith, h))) e
+
+-- the statement at a place of a unit, by the unit
+pub statement_in : (units : List ProgramUnit) (u at : ℕ) → slice_get (listing_of units u) at ≡ option_and_then (λ unit. slice_get unit.listing at) (slice_get units u)
+statement_in [] u at = refl
+statement_in (first ∷ units) zero at = refl
+statement_in (first ∷ units) (suc u) at = statement_in units u at
+
+-- there are statements before a place at which one stands
+pub stands_before : {A : Type 0} (xs : List A) (a b : ℕ) → a ≤ b → IsSome (slice_get xs b) → IsSome (slice_get xs a)
+stands_before [] a b h s = absurd (cc)
+stands_before (x ∷ xs) zero b h s = refl
+stands_before (x ∷ xs) (suc a) zero h s = absurd (omega (arith, h))
+stands_before (x ∷ xs) (suc a) (suc b) h s = stands_before xs a b (omega (arith, h)) s
+
+-- END is executable, so there is a first executable statement
+pub first_stands : (before : List Listed) (last : Listed) → last.stmt ≡ End → IsSome (slice_get (before ++ last ∷ []) (first_executable (before ++ last ∷ [])))
+first_stands [] last e = subst (λ s. IsSome (slice_get (last ∷ []) (cond (not (is_executable s)) (1 + 0) 0))) (sym e) refl
+first_stands (b ∷ before) last e = by (is_executable b.stmt) (first_stands before last e)
+  where
+    next : suc (first_executable (before ++ last ∷ [])) ≡ 1 + first_executable (before ++ last ∷ [])
+    next = omega arith
+
+    by : (x : Bool) → IsSome (slice_get (before ++ last ∷ []) (first_executable (before ++ last ∷ []))) → IsSome (slice_get (b ∷ (before ++ last ∷ [])) (cond (not x) (1 + first_executable (before ++ last ∷ [])) 0))
+    by true h = refl
+    by false h = subst (λ n. IsSome (slice_get (b ∷ (before ++ last ∷ [])) n)) next h

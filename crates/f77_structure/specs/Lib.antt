@@ -1,0 +1,12 @@
+pub mod Arrays
+pub mod Blocks
+pub mod Labels
+pub mod Loops
+pub mod Needs
+pub mod Ranges
+pub mod HasMeaning
+pub mod Statements
+pub mod Storage
+pub mod Stretches
+pub mod Units
+pub mod Values

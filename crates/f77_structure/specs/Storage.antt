@@ -1,0 +1,145 @@
+-- The storage units of the entities of a program (ANSI X3.9-1978, sections 2.13, 5.1.2, 5.2.5, 5.4 and 17.1.1).
+use Rattle.std.specs.Prelude.{ℤ, ◌+ℤ◌, ◌&&◌, int_le, if◌then◌else◌, ◌≡◌, ℕ, ◌+◌, ◌≤◌, ◌^◌, pos, Bool, true, false, List, [], ◌∷◌, length, map, All, take, Option, None, Some, slice_get}
+use Rattle.std.specs.List.{repeat}
+use Rattle.std.specs.Int.{int_gap}
+use Rattle.std.specs.Option.{is_some, option_map}
+use Rattle.f77_ast.specs.declared.expr.Expr.{Expr, out-Expr}
+use Rattle.f77_ast.specs.declared.expr.Expr.TheOpen.{Expr-F, Part-F, Ref-F}
+use Rattle.f77_ast.specs.declared.expr.Expr.TheOpen as layer
+use Rattle.f77_ast.specs.declared.expr.Part.{Part}
+use Rattle.f77_ast.specs.declared.expr.Ref.{Ref}
+use Rattle.f77_ast.specs.declared.program.Entity.{Entity}
+use Rattle.f77_ast.specs.declared.program.Layout.{Layout}
+use Rattle.f77_ast.specs.declared.program.Place.{Place}
+use Rattle.f77_ast.specs.declared.program.Place.TheVariants.{Stored, Dummy, Constant}
+use Rattle.f77_ast.specs.declared.program.Region.{Region}
+use Rattle.f77_ast.specs.declared.specification.Bound.{Bound}
+
+-- the number that an expression is; none where it is no number
+abbrev pub literal_number : Expr-F Expr Part Ref → Option ℤ
+literal_number (layer.Int number) = Some number
+literal_number (layer.Truth value) = None
+literal_number (layer.Chars text) = None
+literal_number (layer.Ref ref) = None
+literal_number (layer.Unary op operand) = None
+literal_number (layer.Binary op left right) = None
+literal_number (layer.Paren inner) = None
+
+-- the number that a bound is; none where it is left out, `*`, or no number
+abbrev pub bound_number : Option Expr → Option ℤ
+bound_number None = None
+bound_number (Some bound) = literal_number (out-Expr bound)
+
+-- the lower and the upper bound of a dimension, as numbers (section 5.1.1.1)
+pub record Span : Type 0 where
+  pub low : ℤ
+  pub high : ℤ
+
+abbrev pub span_with : Option ℤ → Option ℤ → Option Span
+span_with (Some low) (Some high) = Some (record { low = low; high = high })
+span_with (Some low) None = None
+span_with None high = None
+
+-- the bounds of a dimension, where both are numbers: those of each entity that is no dummy are
+abbrev pub span_of : Bound → Option Span
+span_of bound = span_with (bound_number bound.low) (bound_number bound.high)
+
+-- the number of elements of a dimension: none where its upper bound is less than its lower one
+abbrev pub extent_of : Span → ℕ
+extent_of span = int_gap span.low (span.high +ℤ pos 1)
+
+-- the number of elements between bounds that may not be numbers; then it has no meaning
+abbrev pub extent_by : Option Span → ℕ
+extent_by None = 0
+extent_by (Some span) = extent_of span
+
+-- how many cells an entity of INTEGER takes, by its dimensions: a variable takes one, an array of one dimension one for
+-- each element (section 5.2.5); more dimensions have no meaning yet
+abbrev pub storage_units_by : List Bound → ℕ
+storage_units_by [] = 1
+storage_units_by (bound ∷ []) = extent_by (span_of bound)
+storage_units_by (first ∷ second ∷ bounds) = 0
+
+abbrev pub storage_units_of : Entity → ℕ
+storage_units_of entity = storage_units_by entity.bounds
+
+-- the first address of what is stored
+abbrev pub start_by : Place → ℕ
+start_by (Stored address) = address
+start_by (Dummy place) = 0
+start_by (Constant value) = 0
+
+abbrev pub start_of : Entity → ℕ
+start_of entity = start_by entity.place
+
+-- whether an entity is a variable
+abbrev pub is_scalar : List Bound → Bool
+is_scalar [] = true
+is_scalar (bound ∷ bounds) = false
+
+-- the bounds of an array of one dimension; none of what is no such array
+abbrev pub vector_span : List Bound → Option Span
+vector_span [] = None
+vector_span (bound ∷ []) = span_of bound
+vector_span (first ∷ second ∷ bounds) = None
+
+-- whether it is an array of one dimension
+abbrev pub is_vector : List Bound → Bool
+is_vector bounds = is_some (vector_span bounds)
+
+-- whether a subscript is within its bounds
+abbrev pub is_within : Span → (subscript : ℤ) → Bool
+is_within span subscript = int_le span.low subscript && int_le subscript span.high
+
+-- how many elements come before the one of a subscript
+abbrev pub offset_of : Span → (subscript : ℤ) → ℕ
+offset_of span subscript = int_gap span.low subscript
+
+-- the same; none where the subscript is outside the bounds, or there are none
+abbrev pub offset_by : Option Span → (subscript : ℤ) → Option ℕ
+offset_by None subscript = None
+offset_by (Some span) subscript = if is_within span subscript then Some (offset_of span subscript) else None
+
+-- the address of a variable; none of what is no variable
+abbrev pub address_of_variable : Entity → Option ℕ
+address_of_variable entity = if is_scalar entity.bounds then Some (start_of entity) else None
+
+-- the address of an element, by its subscript (section 5.4); none where that is outside the bounds, and of what is no
+-- array of one dimension
+abbrev pub address_of_element : Entity → (subscript : ℤ) → Option ℕ
+address_of_element entity subscript = option_map (λ offset. start_of entity + offset) (offset_by (vector_span entity.bounds) subscript)
+
+-- whether it has an address
+abbrev pub is_stored : Place → Bool
+is_stored (Stored address) = true
+is_stored (Dummy place) = false
+is_stored (Constant value) = false
+
+-- how many storage units some entities take
+abbrev pub storage_units_of_all : List Entity → ℕ
+storage_units_of_all [] = 0
+storage_units_of_all (entity ∷ entities) = storage_units_of entity + storage_units_of_all entities
+
+-- an entity lies in storage of so many units
+pub record LiesIn (total : ℕ) (entity : Entity) : Type 0 where
+  pub stored : is_stored entity.place ≡ true
+  pub within : start_of entity + storage_units_of entity ≤ total
+
+-- there is an opening value for each unit of storage, each entity lies in it, and addresses have 32 bits
+pub record IsStorage (layout : Layout) : Type 0 where
+  pub total : layout.total ≡ length layout.first
+  pub lie : All (LiesIn (length layout.first)) layout.entities
+  pub small : length layout.first ≤ 2 ^ 32
+
+-- the region of an entity that overlaps no other
+abbrev pub region_of : Entity → Region
+region_of entity = record { start = start_of entity; len = storage_units_of entity }
+
+-- the layout of a file of one program unit without COMMON and EQUIVALENCE, for all of its entities at once: each stands
+-- where those before it end and is a region of its own, and each storage unit is 0 before the first step. Which entities
+-- there are, and in which order, is said where the program is made.
+pub record IsLaidOut (layout : Layout) : Type 0 where
+  pub placed : (k : ℕ) (entity : Entity) → slice_get layout.entities k ≡ Some entity → entity.place ≡ Stored (storage_units_of_all (take k layout.entities))
+  pub regions : layout.regions ≡ map region_of layout.entities
+  pub total : layout.total ≡ storage_units_of_all layout.entities
+  pub first : layout.first ≡ repeat layout.total (pos 0 ∷ [])
