@@ -1,40 +1,97 @@
 -- What an assignment reads and writes (ANSI X3.9-1978, section 10.1; the order of an accumulation is this project's own).
-use Rattle.std.specs.Prelude.{ℕ, zero, suc, ℤ, pos, Bool, true, false, List, Option, None, Some, if◌then◌else◌}
+use Rattle.std.specs.Prelude.{ℕ, zero, suc, ℤ, pos, Bool, true, false, List, [], ◌∷◌, Option, None, Some, if◌then◌else◌}
 use Rattle.std.specs.Option.{option_map, option_or}
+use Rattle.hyb_base.specs.declared.ops.RedOp.{RedOp}
+use Rattle.hyb_base.specs.declared.ops.RedOp.TheVariants as red
 use Rattle.f77_ast.specs.declared.expr.Expr.{Expr, out-Expr}
 use Rattle.f77_ast.specs.declared.expr.Expr.TheFolds.{fold-Expr}
 use Rattle.f77_ast.specs.declared.expr.Expr.TheOpen.{Expr-F, Part-F, Ref-F}
 use Rattle.f77_ast.specs.declared.expr.Expr.TheOpen as layer
 use Rattle.f77_ast.specs.declared.expr.Op.{Op}
-use Rattle.f77_ast.specs.declared.expr.Op.TheVariants.{Add, Sub, Mul}
+use Rattle.f77_ast.specs.declared.expr.Op.TheVariants.{Plus, Neg, Not, Add, Sub, Mul, Div, Pow, Cat, Rel, And, Or, Eqv, Neqv}
 use Rattle.f77_ast.specs.declared.expr.Part.{Part}
 use Rattle.f77_ast.specs.declared.expr.Ref.{Ref}
-use Rattle.f77_ast.specs.declared.program.Layout.{Layout}
 use Rattle.f77_trees.specs.Same.{same_ref}
 use Rattle.hyb_base.specs.Wrap.{sum_of, difference_of, product_of}
-use Rattle.f77_meaning.specs.Demand.{Demand, gives, and_then, Evaluation, unit_value, demand_of, location_of}
+use Rattle.f77_meaning.specs.Demand.{Demand, gives, wants, and_then, Evaluation, Located, Setting, demand_of, location_of, number_demand, number_of}
 
--- whether an operator stands in a chain of `+` and `-`
+-- whether an operator is one of a chain of `+` and `-`
 abbrev pub stands_in_sum : Op → Bool
+stands_in_sum Plus = false
+stands_in_sum Neg = false
+stands_in_sum Not = false
 stands_in_sum Add = true
 stands_in_sum Sub = true
-stands_in_sum _ = false
+stands_in_sum Mul = false
+stands_in_sum Div = false
+stands_in_sum Pow = false
+stands_in_sum Cat = false
+stands_in_sum (Rel rel) = false
+stands_in_sum And = false
+stands_in_sum Or = false
+stands_in_sum Eqv = false
+stands_in_sum Neqv = false
 
--- whether an operator stands in a chain of `*`
+-- whether an operator is one of a chain of `*`
 abbrev pub stands_in_product : Op → Bool
+stands_in_product Plus = false
+stands_in_product Neg = false
+stands_in_product Not = false
+stands_in_product Add = false
+stands_in_product Sub = false
 stands_in_product Mul = true
-stands_in_product _ = false
+stands_in_product Div = false
+stands_in_product Pow = false
+stands_in_product Cat = false
+stands_in_product (Rel rel) = false
+stands_in_product And = false
+stands_in_product Or = false
+stands_in_product Eqv = false
+stands_in_product Neqv = false
 
--- whether the operands of an operator may be exchanged in an accumulation
-abbrev pub is_commutative : Op → Bool
-is_commutative Add = true
-is_commutative Mul = true
-is_commutative _ = false
+-- the operator of the accumulation `e op v`; those on truth have no meaning yet
+abbrev pub exchanged : Op → Option RedOp
+exchanged Plus = None
+exchanged Neg = None
+exchanged Not = None
+exchanged Add = Some red.Add
+exchanged Sub = None
+exchanged Mul = Some red.Mul
+exchanged Div = None
+exchanged Pow = None
+exchanged Cat = None
+exchanged (Rel rel) = None
+exchanged And = None
+exchanged Or = None
+exchanged Eqv = None
+exchanged Neqv = None
+
+-- what an operator of an accumulation gives of its operands; no other stands in one
+abbrev pub joined_by : Op → ℤ → ℤ → ℤ
+joined_by Plus x y = pos 0
+joined_by Neg x y = pos 0
+joined_by Not x y = pos 0
+joined_by Add x y = sum_of x y
+joined_by Sub x y = difference_of x y
+joined_by Mul x y = product_of x y
+joined_by Div x y = pos 0
+joined_by Pow x y = pos 0
+joined_by Cat x y = pos 0
+joined_by (Rel rel) x y = pos 0
+joined_by And x y = pos 0
+joined_by Or x y = pos 0
+joined_by Eqv x y = pos 0
+joined_by Neqv x y = pos 0
 
 -- whether an expression is a reference, spelled as this one
 abbrev pub is_spelled_as : Ref → Expr-F Expr Part Ref → Bool
+is_spelled_as v (layer.Int value) = false
+is_spelled_as v (layer.Truth value) = false
+is_spelled_as v (layer.Chars text) = false
 is_spelled_as v (layer.Ref ref) = same_ref v ref
-is_spelled_as v _ = false
+is_spelled_as v (layer.Unary op operand) = false
+is_spelled_as v (layer.Binary op left right) = false
+is_spelled_as v (layer.Paren inner) = false
 
 abbrev pub is_v : Ref → Expr → Bool
 is_v v expr = is_spelled_as v (out-Expr expr)
@@ -45,96 +102,122 @@ pub record Operation : Type 0 where
   pub left : Expr
   pub right : Expr
 
--- the operator that stands outermost in an expression, where it has two operands
+-- the outermost operator of an expression, where it has two operands
 abbrev pub layer_operation : Expr-F Expr Part Ref → Option Operation
+layer_operation (layer.Int value) = None
+layer_operation (layer.Truth value) = None
+layer_operation (layer.Chars text) = None
+layer_operation (layer.Ref ref) = None
+layer_operation (layer.Unary op operand) = None
 layer_operation (layer.Binary op left right) = Some (record { op = op; left = left; right = right })
-layer_operation _ = None
+layer_operation (layer.Paren inner) = None
 
 abbrev pub operation_of : Expr → Option Operation
 operation_of expr = layer_operation (out-Expr expr)
 
--- how many operators with two operands stand one within the other at the left
+-- how many operators with two operands are one within the other at the left
 abbrev pub left_step : Expr-F ℕ (Unit {0}) (Unit {0}) → ℕ
+left_step (layer.Int value) = 0
+left_step (layer.Truth value) = 0
+left_step (layer.Chars text) = 0
+left_step (layer.Ref ref) = 0
+left_step (layer.Unary op operand) = 0
 left_step (layer.Binary op left right) = suc left
-left_step _ = 0
+left_step (layer.Paren inner) = 0
 
 abbrev pub operators_at_left : Expr → ℕ
 operators_at_left = fold-Expr ℕ (Unit {0}) (Unit {0}) left_step (λ part. tt) (λ ref. tt)
 
 -- the right side of an accumulation with v held open: its value is a function of v's value, once all else is read
-abbrev pub Accumulation : Type 0
-Accumulation = List ℤ → Demand (ℤ → ℤ)
+abbrev pub Held : Type 0
+Held = List ℤ → Demand (ℤ → ℤ)
 
--- what an operator of an accumulation gives of its operands
-abbrev pub joined_by : Op → ℤ → ℤ → ℤ
-joined_by Add x y = sum_of x y
-joined_by Sub x y = difference_of x y
-joined_by Mul x y = product_of x y
-joined_by op x y = pos 0
+-- the value of an operand that is a number
+abbrev pub Operand : Type 0
+Operand = List ℤ → Demand ℤ
 
 -- v, and an operand to its right
-abbrev pub accumulation_first : Op → Evaluation → Accumulation
-accumulation_first op right answers = and_then (right answers) (λ y rest. gives (λ v. joined_by op v y) rest)
+abbrev pub held_first : Op → Operand → Held
+held_first op right answers = and_then (right answers) (λ y rest. gives (λ v. joined_by op v y) rest)
 
 -- a chain from v on, and one operand more to its right
-abbrev pub accumulation_next : Op → Evaluation → Accumulation → Accumulation
-accumulation_next op right left answers = and_then (left answers) (λ chain rest. and_then (right rest) (λ y more. gives (λ v. joined_by op (chain v) y) more))
+abbrev pub held_next : Op → Operand → Held → Held
+held_next op right left answers = and_then (left answers) (λ chain rest. and_then (right rest) (λ y more. gives (λ v. joined_by op (chain v) y) more))
 
 -- an operand, and v to its right
-abbrev pub accumulation_last : Op → Evaluation → Accumulation
-accumulation_last op left answers = and_then (left answers) (λ x rest. gives (λ v. joined_by op x v) rest)
+abbrev pub held_last : Op → Operand → Held
+held_last op left answers = and_then (left answers) (λ x rest. gives (λ v. joined_by op x v) rest)
 
-module _ (layout : Layout) (unit : ℕ) (v : Ref) where
+-- an accumulation: its operator, and its right side with v held open
+pub record Accumulation : Type 0 where
+  pub op : RedOp
+  pub held : Held
+
+-- an accumulation by this operator, where there is a right side
+abbrev pub accumulates_by : RedOp → Option Held → Option Accumulation
+accumulates_by op held = option_map (λ h. record { op = op; held = h }) held
+
+module _ (s : Setting) (v : Ref) where
   module _ (in_chain : Op → Bool) where
     -- a chain whose left operand is v, or such a chain
-    abbrev pub chain_by : (Expr → Option Accumulation) → Option Operation → Option Accumulation
+    abbrev pub chain_by : (Expr → Option Held) → Option Operation → Option Held
     chain_by inner None = None
     chain_by inner (Some o) =
         if in_chain o.op
-        then (if is_v v o.left then Some (accumulation_first o.op (demand_of layout unit o.right)) else option_map (accumulation_next o.op (demand_of layout unit o.right)) (inner o.left))
+        then (if is_v v o.left then Some (held_first o.op (number_demand s o.right)) else option_map (held_next o.op (number_demand s o.right)) (inner o.left))
         else None
 
     -- a chain of so many operators at most, whose leftmost operand is v
-    abbrev pub chain_within : ℕ → Expr → Option Accumulation
+    abbrev pub chain_within : ℕ → Expr → Option Held
     chain_within zero expr = None
     chain_within (suc operators) expr = chain_by (chain_within operators) (operation_of expr)
 
     -- a chain of one or more of these operators, whose leftmost operand is v
-    abbrev pub chain_of : Expr → Option Accumulation
+    abbrev pub chain_of : Expr → Option Held
     chain_of expr = chain_within (operators_at_left expr) expr
 
-  -- `e + v` or `e * v`
+  -- `e op v`, where the operands of the operator may be exchanged
+  abbrev pub last_with : Operation → Option RedOp → Option Accumulation
+  last_with o None = None
+  last_with o (Some op) = if is_v v o.right then Some (record { op = op; held = held_last o.op (number_demand s o.left) }) else None
+
   abbrev pub last_by : Option Operation → Option Accumulation
   last_by None = None
-  last_by (Some o) =
-      if is_commutative o.op
-      then (if is_v v o.right then Some (accumulation_last o.op (demand_of layout unit o.left)) else None)
-      else None
+  last_by (Some o) = last_with o (exchanged o.op)
 
-  -- the right side of an accumulation, with v held open: the first form that fits counts; none where the assignment is
-  -- no accumulation. Accumulations by MAX, MIN and the logical operators have no words yet, and no function is referenced
-  -- yet, so the rule that there is none but intrinsics needs none
+  -- the right side of an accumulation: the first form that fits counts; none where the assignment is no accumulation.
+  -- Accumulations by MAX, MIN and the logical operators have no words yet, and no function is referenced yet, so the rule
+  -- that there is none but intrinsics needs none
   abbrev pub accumulation_of : Expr → Option Accumulation
-  accumulation_of expr = option_or (chain_of stands_in_sum expr) (option_or (chain_of stands_in_product expr) (last_by (operation_of expr)))
+  accumulation_of expr =
+      option_or (accumulates_by red.Add (chain_of stands_in_sum expr))
+      (option_or (accumulates_by red.Mul (chain_of stands_in_product expr)) (last_by (operation_of expr)))
 
--- a unit, and the value that it takes
-abbrev pub Written : Type 0
-Written = ℕ × ℤ
+-- an address, the number that it takes, and the operator of an accumulation
+pub record Written : Type 0 where
+  pub address : ℕ
+  pub value : ℤ
+  pub by : Option RedOp
 
 -- an assignment that is no accumulation: what the left side's subscript reads was read, then comes the right side
-abbrev pub plainly : (address : ℕ) → Evaluation → List ℤ → Demand Written
-plainly address value answers = and_then (value answers) (λ v rest. gives (address, v) rest)
+abbrev pub plainly : Located → Evaluation → List ℤ → Demand Written
+plainly place value answers = and_then (value answers) (λ v rest. gives (record { address = place.address; value = number_of v; by = None }) rest)
+
+-- v is read last, and takes the value of the right side
+abbrev pub accumulate : RedOp → (address : ℕ) → (ℤ → ℤ) → List ℤ → Demand Written
+accumulate op address value [] = wants address (Some op)
+accumulate op address value (v ∷ rest) = gives (record { address = address; value = value v; by = Some op }) rest
 
 -- an accumulation, the left side's subscript having its value: all else is read, then v, and then v is written
-abbrev pub accumulated : (address : ℕ) → Accumulation → List ℤ → Demand Written
-accumulated address held answers = and_then (held answers) (λ value rest. and_then (unit_value address rest) (λ v more. gives (address, value v) more))
+abbrev pub accumulated : Located → Accumulation → List ℤ → Demand Written
+accumulated place a answers = and_then (a.held answers) (λ value rest. accumulate a.op place.address value rest)
 
 -- the one or the other
-abbrev pub written_by : Option Accumulation → (address : ℕ) → Evaluation → List ℤ → Demand Written
-written_by None address value answers = plainly address value answers
-written_by (Some held) address value answers = accumulated address held answers
+abbrev pub written_by : Option Accumulation → Located → Evaluation → List ℤ → Demand Written
+written_by None place value answers = plainly place value answers
+written_by (Some a) place value answers = accumulated place a answers
 
 -- what an assignment writes, and where: the left side's subscript comes first
-abbrev pub written_of : Layout → (unit : ℕ) → (target : Ref) → (value : Expr) → List ℤ → Demand Written
-written_of layout unit target value answers =
-    and_then (location_of layout unit target answers) (λ address rest. written_by (accumulation_of layout unit target value) address (demand_of layout unit value) rest)
+abbrev pub written_of : Setting → (target : Ref) → (value : Expr) → List ℤ → Demand Written
+written_of s target value answers =
+    and_then (location_of s target answers) (λ place rest. written_by (accumulation_of s target value) place (demand_of s value) rest)

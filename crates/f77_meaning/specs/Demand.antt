@@ -1,10 +1,9 @@
--- The value of an expression, from the values of the units that it reads (ANSI X3.9-1978, section 6).
+-- The value of an expression, from the values of the addresses that it reads (ANSI X3.9-1978, section 6).
 -- It is evaluated from left to right. Each value that it reads is taken in turn from a list of answers: where the list
--- is too short, the evaluation asks for the unit that it reads next.
-use Rattle.std.specs.Prelude.{ℕ, ℤ, pos, List, [], ◌∷◌, Option, None, Some}
-use Rattle.hyb_base.specs.Wrap.{sum_of, difference_of, product_of, negation_of, quotient_of, power_of}
-use Rattle.f77_ast.specs.declared.expr.Op.{Op}
-use Rattle.f77_ast.specs.declared.expr.Op.TheVariants.{Plus, Neg, Add, Sub, Mul, Div, Pow}
+-- is too short, the evaluation asks for the address that it reads next.
+use Rattle.std.specs.Prelude.{ℕ, zero, suc, ◌+◌, ℤ, pos, List, [], ◌∷◌, Option, None, Some, if◌then◌else◌}
+use Rattle.hyb_base.specs.declared.ops.RedOp.{RedOp}
+use Rattle.f77_ast.specs.declared.expr.Kind.{Kind}
 use Rattle.f77_ast.specs.declared.expr.Expr.{Expr}
 use Rattle.f77_ast.specs.declared.expr.Expr.TheOpen.{Expr-F, Part-F, Ref-F}
 use Rattle.f77_ast.specs.declared.expr.Expr.TheOpen as layer
@@ -13,87 +12,125 @@ use Rattle.f77_ast.specs.declared.expr.Ref.{Ref}
 use Rattle.f77_ast.specs.declared.program.Entity.{Entity}
 use Rattle.f77_ast.specs.declared.program.Layout.{Layout}
 use Rattle.f77_ast.specs.declared.fault.Fault.{Fault}
-use Rattle.f77_ast.specs.declared.fault.Fault.TheVariants.{ZeroDivisor, Subscript}
+use Rattle.f77_ast.specs.declared.fault.Fault.TheVariants.{Subscript}
 use Rattle.f77_ast.specs.Entity.{entity_in}
-use Rattle.f77_structure.specs.Storage.{address_of_variable, address_of_element}
+use Rattle.f77_structure.specs.Storage.{is_scalar, start_of, address_of_element}
+use Rattle.f77_structure.specs.Values.{Value, integer, truth, chars, value_of_units, Operated, yields, breaks, means_nothing, number_of_truth, unary_of, binary_of}
+use Rattle.f77_meaning.specs.Process.{Binding, Dimension, Frame}
 
--- what an evaluation comes to: a value and the answers that are left, the address of the unit that is read next, or a fault
+-- where an expression is evaluated: the layout, the unit, what its dummies are bound to, and the dimensions of its dummy arrays
+pub record Setting : Type 0 where
+  pub layout : Layout
+  pub unit : ℕ
+  pub bindings : List Binding
+  pub bounds : List (List Dimension)
+
+-- that of a frame
+abbrev pub setting_of : Layout → Frame → Setting
+setting_of layout frame = record { layout = layout; unit = frame.unit; bindings = frame.bindings; bounds = frame.bounds }
+
+-- what an evaluation gives: a value and the answers that are left; the address that is read next, with the operator of an
+-- accumulation where it is the last read of one; the unit that is called next, with what its dummies are bound to; or a fault
 pub data Demand (A : Type 0) : Type 0 where
   gives : (value : A) (rest : List ℤ) → Demand A
-  wants : (address : ℕ) → Demand A
+  wants : (address : ℕ) (by : Option RedOp) → Demand A
+  calls : (unit : ℕ) (bindings : List Binding) → Demand A
   fails : (fault : Fault) → Demand A
 
 -- goes on with the value, on the answers that are left
 abbrev pub and_then : {A B : Type 0} → Demand A → (A → List ℤ → Demand B) → Demand B
 and_then (gives value rest) go = go value rest
-and_then (wants address) go = wants address
+and_then (wants address by) go = wants address by
+and_then (calls unit bindings) go = calls unit bindings
 and_then (fails fault) go = fails fault
 
--- a value, or a zero divisor where there is none
-abbrev pub unless_zero_divisor : Option ℤ → List ℤ → Demand ℤ
-unless_zero_divisor (Some value) rest = gives value rest
-unless_zero_divisor None rest = fails ZeroDivisor
+-- the number that a value is written as: a truth is 1 or 0; characters are no one number
+abbrev pub number_of : Value → ℤ
+number_of (integer number) = number
+number_of (truth holds) = number_of_truth holds
+number_of (chars text) = pos 0
 
--- an operator with one operand (section 6.1.1); those on other types than INTEGER have no meaning yet
-abbrev pub unary_of : Op → ℤ → List ℤ → Demand ℤ
-unary_of Plus x rest = gives x rest
-unary_of Neg x rest = gives (negation_of x) rest
-unary_of op x rest = gives (pos 0) rest
-
--- an operator with two operands (section 6.1.1); those on other types than INTEGER have no meaning yet
-abbrev pub binary_of : Op → ℤ → ℤ → List ℤ → Demand ℤ
-binary_of Add x y rest = gives (sum_of x y) rest
-binary_of Sub x y rest = gives (difference_of x y) rest
-binary_of Mul x y rest = gives (product_of x y) rest
-binary_of Div x y rest = unless_zero_divisor (quotient_of x y) rest
-binary_of Pow x y rest = unless_zero_divisor (power_of x y) rest
-binary_of op x y rest = gives (pos 0) rest
-
--- the value of the unit at an address: the next answer, or it is read next
-abbrev pub unit_value : (address : ℕ) → List ℤ → Demand ℤ
-unit_value address [] = wants address
-unit_value address (value ∷ rest) = gives value rest
-
--- an address, or a subscript outside its bounds where there is none
-abbrev pub unless_outside : Option ℕ → List ℤ → Demand ℕ
-unless_outside (Some address) rest = gives address rest
-unless_outside None rest = fails Subscript
-
--- what an expression comes to on these answers
+-- what an expression evaluates to on these answers
 abbrev pub Evaluation : Type 0
-Evaluation = List ℤ → Demand ℤ
+Evaluation = List ℤ → Demand Value
 
--- which unit a reference stands for, on these answers
+-- what an operator gives; where the kinds of its operands aren't its own it has no meaning, and no accepted program has that
+abbrev pub applied : Operated → List ℤ → Demand Value
+applied (yields value) rest = gives value rest
+applied (breaks fault) rest = fails fault
+applied means_nothing rest = gives (integer (pos 0)) rest
+
+-- the value at an address: the next answer, or it is read next
+abbrev pub cell_value : (address : ℕ) → List ℤ → Demand ℤ
+cell_value address [] = wants address None
+cell_value address (value ∷ rest) = gives value rest
+
+-- the values of so many addresses in turn
+abbrev pub cells_from : (address count : ℕ) → List ℤ → Demand (List ℤ)
+cells_from address zero answers = gives [] answers
+cells_from address (suc count) answers = and_then (cell_value address answers) (λ first rest. and_then (cells_from (address + 1) count rest) (λ others more. gives (first ∷ others) more))
+
+-- a variable, or an element of an array: its type, its first address and the number of its addresses
+pub record Located : Type 0 where
+  pub kind : Kind
+  pub address : ℕ
+  pub len : ℕ
+
+-- its value: all of its addresses are read, in order
+abbrev pub value_at : Located → Evaluation
+value_at place answers = and_then (cells_from place.address place.len answers) (λ cells rest. gives (value_of_units place.kind cells) rest)
+
+-- what a reference stands for, on these answers
 abbrev pub Location : Type 0
-Location = List ℤ → Demand ℕ
+Location = List ℤ → Demand Located
 
--- the unit of a variable, or of an element: the subscript is evaluated, and then checked; any other list of
--- subscripts is fault 2, and a substring's bounds aren't looked at yet; no accepted program has either
+-- the place of an entity, or of the element of an array, at an address
+abbrev pub place_of : Entity → (address : ℕ) → Located
+place_of entity address = record { kind = entity.kind; address = address; len = entity.len }
+
+-- a variable
+abbrev pub variable_of : Entity → List ℤ → Demand Located
+variable_of entity rest = if is_scalar entity.bounds then gives (place_of entity (start_of entity)) rest else fails Subscript
+
+-- an element that may be there; a subscript outside its bounds is a fault
+abbrev pub element_by : Entity → (address : Option ℕ) → List ℤ → Demand Located
+element_by entity (Some address) rest = gives (place_of entity address) rest
+element_by entity None rest = fails Subscript
+
+-- a variable, or an element: the subscript is evaluated, and then checked. More subscripts, and a substring's bounds, have no
+-- meaning yet; no accepted program has either
 abbrev pub located : Option Entity → Option (List Evaluation) → Location
-located (Some entity) None answers = unless_outside (address_of_variable entity) answers
-located (Some entity) (Some (subscript ∷ [])) answers = and_then (subscript answers) (λ s rest. unless_outside (address_of_element entity s) rest)
-located _ _ answers = fails Subscript
+located None args answers = fails Subscript
+located (Some entity) None answers = variable_of entity answers
+located (Some entity) (Some []) answers = fails Subscript
+located (Some entity) (Some (subscript ∷ [])) answers = and_then (subscript answers) (λ s rest. element_by entity (address_of_element entity (number_of s)) rest)
+located (Some entity) (Some (subscript ∷ second ∷ others)) answers = fails Subscript
 
--- one level: the left operand before the right one; a reference reads its subscript, and then its unit
+-- one level: the left operand before the right one; a reference reads its subscript, and then its addresses
 abbrev pub expr_step : Expr-F Evaluation (Unit {0}) Location → Evaluation
-expr_step (layer.Int value) answers = gives value answers
-expr_step (layer.Ref place) answers = and_then (place answers) unit_value
+expr_step (layer.Int value) answers = gives (integer value) answers
+expr_step (layer.Truth value) answers = gives (truth value) answers
+expr_step (layer.Chars text) answers = gives (chars text) answers
+expr_step (layer.Ref place) answers = and_then (place answers) value_at
+expr_step (layer.Unary op operand) answers = and_then (operand answers) (λ x rest. applied (unary_of op x) rest)
+expr_step (layer.Binary op left right) answers = and_then (left answers) (λ x rest. and_then (right rest) (λ y more. applied (binary_of op x y) more))
 expr_step (layer.Paren inner) answers = inner answers
-expr_step (layer.Unary op operand) answers = and_then (operand answers) (λ x rest. unary_of op x rest)
-expr_step (layer.Binary op left right) answers = and_then (left answers) (λ x rest. and_then (right rest) (λ y more. binary_of op x y more))
-expr_step _ answers = gives (pos 0) answers
 
 abbrev pub part_step : Part-F Evaluation (Unit {0}) Location → Unit {0}
 part_step part = tt
 
 -- a name stands for an entity of its unit
-abbrev pub ref_step : Layout → (unit : ℕ) → Ref-F Evaluation (Unit {0}) Location → Location
-ref_step layout unit ref = located (entity_in layout.entities unit ref.name) ref.args
+abbrev pub ref_step : Setting → Ref-F Evaluation (Unit {0}) Location → Location
+ref_step s ref = located (entity_in s.layout.entities s.unit ref.name) ref.args
 
--- the value of an expression of type INTEGER in a unit
-abbrev pub demand_of : Layout → (unit : ℕ) → Expr → Evaluation
-demand_of layout unit = fold-Expr Evaluation (Unit {0}) Location expr_step part_step (ref_step layout unit)
+-- the value of an expression
+abbrev pub demand_of : Setting → Expr → Evaluation
+demand_of s = fold-Expr Evaluation (Unit {0}) Location expr_step part_step (ref_step s)
 
--- the storage unit that a reference of a unit stands for
-abbrev pub location_of : Layout → (unit : ℕ) → Ref → Location
-location_of layout unit = fold-Ref Evaluation (Unit {0}) Location expr_step part_step (ref_step layout unit)
+-- what a reference stands for
+abbrev pub location_of : Setting → Ref → Location
+location_of s = fold-Ref Evaluation (Unit {0}) Location expr_step part_step (ref_step s)
+
+-- the value of an expression of type INTEGER
+abbrev pub number_demand : Setting → Expr → List ℤ → Demand ℤ
+number_demand s expr answers = and_then (demand_of s expr answers) (λ value rest. gives (number_of value) rest)

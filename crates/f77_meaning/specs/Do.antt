@@ -2,11 +2,10 @@
 use Rattle.std.specs.Prelude.{ℕ, suc, ◌+◌, ◌-◌, ◌^◌, ℤ, pos, negsuc, ◌+ℤ◌, ◌-ℤ◌, ◌*ℤ◌, int_div, Bool, false, ◌&&◌, ◌==◌, List, Option, None, Some, nat_lt, if◌then◌else◌}
 use Rattle.f77_ast.specs.Entity.{entity_in}
 use Rattle.f77_ast.specs.declared.expr.Expr.{Expr}
-use Rattle.f77_ast.specs.declared.program.Layout.{Layout}
 use Rattle.f77_ast.specs.declared.program.Loop.{Loop}
 use Rattle.f77_ast.specs.declared.fault.Fault.TheVariants.{ZeroIncrement, DoRange}
 use Rattle.f77_ast.specs.declared.stmt.LoopControl.{LoopControl}
-use Rattle.f77_meaning.specs.Demand.{Demand, gives, fails, and_then, demand_of, located}
+use Rattle.f77_meaning.specs.Demand.{Demand, gives, fails, and_then, Setting, located, number_demand}
 use Rattle.f77_meaning.specs.Process.{ActiveLoop}
 
 -- the initial, terminal and incrementation parameters m1, m2 and m3 (section 11.10.3)
@@ -55,26 +54,26 @@ begun_with variable m rest =
     if is_zero m.increment then fails ZeroIncrement
     else (if is_in_range m then gives (record { variable = variable; first = m.first; increment = m.increment; count = count_of m }) rest else fails DoRange)
 
-module _ (layout : Layout) (unit : ℕ) where
+module _ (s : Setting) where
   -- the incrementation parameter: 1 where it is left out
   abbrev pub increment_of : Option Expr → List ℤ → Demand ℤ
   increment_of None answers = gives (pos 1) answers
-  increment_of (Some increment) answers = demand_of layout unit increment answers
+  increment_of (Some increment) answers = number_demand s increment answers
 
   -- the three parameters, from the left
   abbrev pub parameters_of : LoopControl → List ℤ → Demand Parameters
   parameters_of control answers =
-      and_then (demand_of layout unit control.first answers) (λ m1 rest.
-      and_then (demand_of layout unit control.last rest) (λ m2 more.
+      and_then (number_demand s control.first answers) (λ m1 rest.
+      and_then (number_demand s control.last rest) (λ m2 more.
       and_then (increment_of control.increment more) (λ m3 left. gives (record { first = m1; last = m2; increment = m3 }) left)))
 
-  -- what a DO statement comes to: its parameters are read, and then its variable's unit is the one to write
+  -- what a DO statement evaluates to: its parameters are read, and then its variable's address is the one to write
   abbrev pub begun_of : LoopControl → List ℤ → Demand Begun
   begun_of control answers =
       and_then (parameters_of control answers) (λ m rest.
-      and_then (located (entity_in layout.entities unit control.variable) None rest) (λ variable more. begun_with variable m more))
+      and_then (located (entity_in s.layout.entities s.unit control.variable) None rest) (λ variable more. begun_with variable.address m more))
 
--- the loop of a DO statement at a place of a unit, which becomes active: its range goes on behind the DO statement
+-- the loop of a DO statement at a place of a unit, which becomes active: its range goes on after the DO statement
 abbrev pub active_from : (at : ℕ) → Loop → Begun → ActiveLoop
 active_from at loop begun = record {
   ordinal = loop.ordinal;
@@ -86,6 +85,10 @@ active_from at loop begun = record {
   count = begun.count;
   done = 0;
 }
+
+-- an active loop with one iteration more ended
+abbrev pub turned : ActiveLoop → ActiveLoop
+turned loop = record loop { done = suc loop.done }
 
 -- the value that the incrementation processing of an active loop gives its variable (section 11.10.7)
 abbrev pub next_value : ActiveLoop → ℤ

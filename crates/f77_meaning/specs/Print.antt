@@ -1,55 +1,104 @@
 -- The line that PRINT writes (ANSI X3.9-1978, sections 12.8 and 12.8.2; list-directed output, section 13.6, is this project's own).
-use Rattle.std.specs.Prelude.{ℕ, zero, suc, ◌+◌, nat_le, ℤ, List, [], ◌∷◌, ◌++◌, length, Option, None, Some, if◌then◌else◌}
+use Rattle.std.specs.Prelude.{ℕ, suc, ◌+◌, nat_le, nat_lt, ℤ, Bool, true, false, List, [], ◌∷◌, ◌++◌, length, drop, Option, None, Some, if◌then◌else◌}
 use Rattle.hyb_base.specs.Decimal.{decimal_of}
+use Rattle.hyb_base.specs.declared.ops.RedOp.{RedOp}
+use Rattle.f77_ast.specs.Limits.{most_line_bytes}
 use Rattle.f77_ast.specs.declared.program.Entity.{Entity}
-use Rattle.f77_ast.specs.declared.program.Layout.{Layout}
-use Rattle.f77_ast.specs.declared.stmt.Item.{Item, Plain}
+use Rattle.f77_ast.specs.declared.stmt.Item.{Item, out-Item}
+use Rattle.f77_ast.specs.declared.stmt.Item.TheOpen.{Item-F}
+use Rattle.f77_ast.specs.declared.stmt.Item.TheOpen as layer
+use Rattle.f77_ast.specs.declared.fault.Fault.{Fault}
 use Rattle.f77_ast.specs.declared.fault.Fault.TheVariants.{LineLimit}
 use Rattle.f77_structure.specs.Arrays.{array_named}
-use Rattle.f77_meaning.specs.Demand.{Demand, gives, fails, and_then, demand_of, Evaluation, unit_value}
 use Rattle.f77_structure.specs.Storage.{start_of, storage_units_of}
+use Rattle.f77_structure.specs.Values.{Value, integer, truth, chars, value_of_units}
+use Rattle.f77_meaning.specs.Demand.{Demand, gives, wants, calls, fails, Setting, demand_of}
+use Rattle.f77_meaning.specs.Process.{Binding, Frame}
 
--- the greatest number of bytes of a line
-abbrev pub line_limit : ℕ
-line_limit = 10000
+-- the text of a value: an integer in decimal, a truth as `T` or `F`, characters as they are
+abbrev pub truth_text : Bool → List ℕ
+truth_text true = 84 ∷ []
+truth_text false = 70 ∷ []
 
--- the line with one item more: a blank, and its text; a line past its limit is a fault
-abbrev pub with_item : List ℕ → List ℕ → List ℤ → Demand (List ℕ)
-with_item line text rest =
-    if nat_le (length line + (1 + length text)) line_limit then gives (line ++ (32 ∷ text)) rest else fails LineLimit
+abbrev pub text_of : Value → List ℕ
+text_of (integer value) = decimal_of value
+text_of (truth value) = truth_text value
+text_of (chars text) = text
 
--- the line with a value more, once it is known
-abbrev pub with_value : List ℕ → Demand ℤ → Demand (List ℕ)
-with_value line value = and_then value (λ v rest. with_item line (decimal_of v) rest)
-
--- the line after so many units from an address on: each is read, and then goes into the line
-abbrev pub after_units : (address count : ℕ) → List ℕ → List ℤ → Demand (List ℕ)
-after_units address zero line answers = gives line answers
-after_units address (suc count) line answers = and_then (with_value line (unit_value address answers)) (λ more rest. after_units (address + 1) count more rest)
-
--- the line after an array, whose elements are items in the order of their storage units (section 5.2.5), or else after a value
-abbrev pub array_or_value : Option Entity → Evaluation → List ℕ → List ℤ → Demand (List ℕ)
-array_or_value (Some array) value line answers = after_units (start_of array) (storage_units_of array) line answers
-array_or_value None value line answers = with_value line (value answers)
+-- the line with a blank and a text more; none where it would pass its limit
+abbrev pub with_text : (line text : List ℕ) → Option (List ℕ)
+with_text line text = if nat_le (length line + (1 + length text)) most_line_bytes then Some (line ++ (32 ∷ text)) else None
 
 -- a line without items is one blank
 abbrev pub or_blank : List ℕ → List ℕ
 or_blank [] = 32 ∷ []
 or_blank (byte ∷ bytes) = byte ∷ bytes
 
-module _ (layout : Layout) (unit : ℕ) where
-  -- the line after one item, on these answers: an array's name stands for its elements, and another expression for its
-  -- value; an implied DO has no meaning yet
-  abbrev pub after_item : Item → List ℕ → List ℤ → Demand (List ℕ)
-  after_item (Plain expr) line answers = array_or_value (array_named layout unit expr) (demand_of layout unit expr) line answers
-  after_item _ line answers = gives line answers
+-- how far a PRINT is: so many items are done, and so many addresses of the next one where that is an array; the answers to the
+-- reads of that item; and the line of what is done
+pub record Printing : Type 0 where
+  pub items : ℕ
+  pub cells : ℕ
+  pub answers : List ℤ
+  pub line : List ℕ
 
-  -- the line after some items, from left to right
-  abbrev pub after_items : List Item → List ℕ → List ℤ → Demand (List ℕ)
-  after_items [] line answers = gives line answers
-  after_items (item ∷ items) line answers = and_then (after_item item line answers) (λ more rest. after_items items more rest)
+-- where a PRINT that goes on as far as it can comes to: it asks for a value or calls a unit, and is so far; its line is whole;
+-- or it meets a fault
+pub data Printed : Type 0 where
+  asks : (address : ℕ) (by : Option RedOp) (so_far : Printing) → Printed
+  enters : (unit : ℕ) (bindings : List Binding) (so_far : Printing) → Printed
+  whole : (line : List ℕ) → Printed
+  stops : (fault : Fault) → Printed
 
-  -- the line of a PRINT: one blank and the text for each item, and one blank where there is no item, as where all items are
-  -- arrays without elements
-  abbrev pub line_of_items : List Item → List ℤ → Demand (List ℕ)
-  line_of_items items answers = and_then (after_items items [] answers) (λ line rest. gives (or_blank line) rest)
+-- a PRINT with its next item done, and this line: what the item read is forgotten
+abbrev pub next_item : Printing → (line : List ℕ) → Printing
+next_item p line = record { items = suc p.items; cells = 0; answers = []; line = line }
+
+-- a PRINT with the next address of its array done, and this line
+abbrev pub next_cell : Printing → (line : List ℕ) → Printing
+next_cell p line = record { items = p.items; cells = suc p.cells; answers = []; line = line }
+
+-- goes on where the line isn't past its limit
+abbrev pub within_limit : Option (List ℕ) → (List ℕ → Printed) → Printed
+within_limit None go = stops LineLimit
+within_limit (Some line) go = go line
+
+-- an item that is an expression, but no array: its value goes into the line once it is known
+abbrev pub after_value : Demand Value → Printing → (Printing → Printed) → Printed
+after_value (gives value rest) p go = within_limit (with_text p.line (text_of value)) (λ line. go (next_item p line))
+after_value (wants address by) p go = asks address by p
+after_value (calls unit bindings) p go = enters unit bindings p
+after_value (fails fault) p go = stops fault
+
+-- the next element of an array is read; where there is none, the item is done
+abbrev pub ask_element : Entity → Printing → (Printing → Printed) → Printed
+ask_element array p go = if nat_lt p.cells (storage_units_of array) then asks (start_of array + p.cells) None p else go (next_item p p.line)
+
+-- an item that is an array: its elements are items in the order of their addresses (section 5.2.5), each of which goes into the
+-- line once it is read
+abbrev pub after_elements : Entity → List ℤ → Printing → (Printing → Printed) → Printed
+after_elements array [] p go = ask_element array p go
+after_elements array (value ∷ rest) p go =
+    within_limit (with_text p.line (text_of (value_of_units array.kind (value ∷ [])))) (λ line. ask_element array (next_cell p line) go)
+
+abbrev pub after_array_or_value : Option Entity → (List ℤ → Demand Value) → Printing → (Printing → Printed) → Printed
+after_array_or_value (Some array) value p go = after_elements array p.answers p go
+after_array_or_value None value p go = after_value (value p.answers) p go
+
+module _ (s : Setting) where
+  -- after one item: an array's name is its elements, and another expression its value; an implied DO has no meaning yet
+  abbrev pub after_layer : Item-F Item → Printing → (Printing → Printed) → Printed
+  after_layer (layer.Plain expr) p go = after_array_or_value (array_named s.layout s.unit expr) (demand_of s expr) p go
+  after_layer (layer.Implied items control) p go = go (next_item p p.line)
+
+  abbrev pub after_item : Item → Printing → (Printing → Printed) → Printed
+  after_item item p go = after_layer (out-Item item) p go
+
+  -- after some items, from left to right: where all are done, the line is whole, and one blank where no item gave a text
+  abbrev pub after_items : List Item → Printing → Printed
+  after_items [] p = whole (or_blank p.line)
+  after_items (item ∷ items) p = after_item item p (after_items items)
+
+  -- where the PRINT of a frame comes to, with this line so far
+  abbrev pub printed_of : List Item → Frame → (line : List ℕ) → Printed
+  printed_of items frame line = after_items (drop frame.items items) (record { items = frame.items; cells = frame.cells; answers = frame.answers; line = line })

@@ -1,79 +1,87 @@
--- What a step may ask of its program, its process, the storage and the line of PRINT.
-use Rattle.std.specs.Prelude.{◌≡◌, ℕ, ◌+◌, ◌-◌, ◌^◌, ◌<◌, ◌≤◌, ℤ, true, List, [], ◌∷◌, length, All, Option, None, Some, IsSome, IsTrue, slice_get}
+-- What a step may ask of its program, its process and the storage.
+use Rattle.std.specs.Prelude.{◌≡◌, ◌≢◌, ℕ, ◌+◌, ◌-◌, ◌^◌, ◌<◌, ◌≤◌, ℤ, List, [], ◌∷◌, length, All, Option, None, Some, IsSome, IsTrue, slice_get}
+use Rattle.f77_ast.specs.Limits.{most_line_bytes}
 use Rattle.f77_ast.specs.declared.program.Layout.{Layout}
 use Rattle.f77_ast.specs.declared.program.Listed.{Listed}
+use Rattle.f77_ast.specs.declared.program.Loop.{Loop}
 use Rattle.f77_ast.specs.declared.program.Program.{Program}
 use Rattle.f77_ast.specs.declared.program.Unit.{Unit as ProgramUnit}
-use Rattle.f77_ast.specs.declared.stmt.Stmt.{Stmt, Print}
+use Rattle.f77_structure.specs.Loops.{loops_of}
+use Rattle.f77_structure.specs.Ranges.{IsDo, RangesNest, terminal_at}
 use Rattle.f77_structure.specs.HasMeaning.{statement_has_meaning}
 use Rattle.f77_structure.specs.Storage.{IsStorage}
+use Rattle.f77_structure.specs.Units.{EndsWithEnd, listing_of, main_unit, statement_count}
 use Rattle.f77_meaning.specs.Do.{has_64_bits, value_after}
-use Rattle.f77_structure.specs.Loops.{loops_of}
-use Rattle.f77_structure.specs.Units.{statement_count, listing_of, EndsWithEnd}
-use Rattle.f77_meaning.specs.Process.{ActiveLoop, Process, listed_at}
-use Rattle.f77_structure.specs.Ranges.{IsDo, RangesNest, terminal_at}
-use Rattle.f77_meaning.specs.Step.{is_terminal}
+use Rattle.f77_meaning.specs.Process.{ActiveLoop, Frame, Process, Stage, at_statement, at_inner, at_entry, at_increment, listed_of}
+use Rattle.f77_meaning.specs.Step.{is_terminal, loop_of_do}
 
--- what every accepted program satisfies: it has a first unit, which is the main unit so far, each unit ends with END, the
--- references of its assignments, DO statements and PRINTs name entities, these lie in storage, its loops are those of its
--- DO statements, their ranges nest, and its statements are counted with 32 bits
+-- what every accepted program satisfies: it has a main unit, each unit ends with END and has no other, each statement has a
+-- meaning, its expressions too, and its references name entities, these lie in storage, its loops are those of its DO
+-- statements, their ranges nest, and its statements are counted with 32 bits
 pub record IsSound (program : Program) : Type 0 where
-  pub main : IsSome (slice_get program.units 0)
+  pub main : IsSome (slice_get program.units (main_unit program.units))
   pub ended : All (λ unit. EndsWithEnd unit.listing) program.units
-  pub meaning : (u : ℕ) (unit : ProgramUnit) → slice_get program.units u ≡ Some unit → All (λ listed. IsTrue (statement_has_meaning program.layout u listed.stmt)) unit.listing
+  pub resolved : (u : ℕ) (unit : ProgramUnit) → slice_get program.units u ≡ Some unit → All (λ listed. IsTrue (statement_has_meaning program.layout u listed.stmt)) unit.listing
   pub storage : IsStorage program.layout
   pub loops : program.loops ≡ loops_of program.units
   pub ranges : All (λ unit. RangesNest unit.listing) program.units
   pub counted : statement_count program.units + 1 < 2 ^ 32
 
 -- the numbers of an active loop: an iteration is left to end, the count and the variable's value at the end of the loop have
--- 64 bits, and the variable is a unit of storage of so many
+-- 64 bits, and the variable is an address of storage of so many
 pub record NumbersFit (total : ℕ) (loop : ActiveLoop) : Type 0 where
   pub left : loop.done < loop.count
   pub count : loop.count < 2 ^ 63
   pub end : IsTrue (has_64_bits (value_after loop.first loop.increment loop.count))
   pub variable : loop.variable < total
 
--- an active loop of a unit of these statements, in whose range the places from `low` to `high` lie: its range is that of a
--- DO statement of the unit, and its numbers are in range
-pub record IsActive (total : ℕ) (listing : List Listed) (low high : ℕ) (loop : ActiveLoop) : Type 0 where
+-- an active loop of a unit, in whose range the places from `low` to `high` lie: it is that of a DO statement of the unit, which
+-- has this loop of the program, its range is the loop's, and its numbers are in range
+pub record IsActive (program : Program) (unit low high : ℕ) (loop : ActiveLoop) : Type 0 where
   pub at : ℕ
   pub label : ℕ
-  pub begins : IsDo listing at label
+  pub begins : IsDo (listing_of program.units unit) at label
+  pub its : Loop
+  pub found : loop_of_do program unit at ≡ Some its
+  pub ordinal : loop.ordinal ≡ its.ordinal
   pub from : loop.from ≡ at + 1
-  pub last : loop.last ≡ terminal_at listing at label
+  pub last : loop.last ≡ terminal_at (listing_of program.units unit) at label
   pub above : loop.from ≤ low
   pub below : high ≤ loop.last
-  pub numbers : NumbersFit total loop
+  pub numbers : NumbersFit (length program.layout.first) loop
 
--- active loops, the innermost one first: the places from `low` to `high` lie in the range of the first, and its DO
--- statement and its range in that of the next one, and so on
-abbrev pub AreActive : (total : ℕ) → List Listed → (low high : ℕ) → List ActiveLoop → Type 0
-AreActive total listing low high [] = Unit {0}
-AreActive total listing low high (loop ∷ outer) = IsActive total listing low high loop × AreActive total listing (loop.from - 1) loop.last outer
+-- active loops, the innermost one first: the places from `low` to `high` lie in the range of the first, and its DO statement
+-- and its range in that of the next one, and so on
+abbrev pub AreActive : Program → (unit low high : ℕ) → List ActiveLoop → Type 0
+AreActive program unit low high [] = Unit {0}
+AreActive program unit low high (loop ∷ outer) = IsActive program unit low high loop × AreActive program unit (loop.from - 1) loop.last outer
 
--- a process that may come of a program: it stands at a statement, which lies in the range of each active loop; where it
--- increments, it stands at the terminal statement of the innermost one
+-- a stage fits its frame: where the frame increments, it is at the terminal statement of its innermost active loop. Nothing is at a
+-- statement inside a logical IF, or at the entry of a unit, yet
+abbrev pub FitsStage : Stage → Frame → Type 0
+FitsStage at_statement frame = Unit {0}
+FitsStage at_inner frame = ⊥
+FitsStage at_entry frame = ⊥
+FitsStage at_increment frame = IsTrue (is_terminal frame.at frame.active)
+
+-- a frame that may come of a program: it is at a statement, which lies in the range of each of its active loops, and at a stage
+-- that fits
+pub record IsFrame (program : Program) (frame : Frame) : Type 0 where
+  pub stands : IsSome (listed_of program frame)
+  pub active : AreActive program frame.unit frame.at frame.at frame.active
+  pub stage : FitsStage frame.stage frame
+
+-- frames that may come of a program, the last one first: no unit is active twice
+abbrev pub AreFrames : Program → List Frame → Type 0
+AreFrames program [] = Unit {0}
+AreFrames program (frame ∷ below) = IsFrame program frame × (All (λ other. other.unit ≢ frame.unit) below × AreFrames program below)
+
+-- a process that may come of a program: its frames may, and its line isn't past its limit
 pub record IsOf (program : Program) (p : Process) : Type 0 where
-  pub stands : IsSome (listed_at program p)
-  pub active : AreActive (length program.layout.first) (listing_of program.units p.unit) p.at p.at p.active
-  pub increments : p.increments ≡ true → IsTrue (is_terminal p.at p.active)
+  pub some : IsSome (slice_get p.frames 0)
+  pub frames : AreFrames program p.frames
+  pub line : length p.line ≤ most_line_bytes
 
--- storage for a layout: one value for each storage unit
+-- storage for a layout: one value for each address
 pub record Fits (layout : Layout) (store : List ℤ) : Type 0 where
-  pub units : length store ≡ length layout.first
-
--- a line that a statement may be run with: that of a PRINT is empty
-abbrev pub IsClearFor : Stmt → List ℕ → Type 0
-IsClearFor (Print items) line = line ≡ []
-IsClearFor _ line = Unit {0}
-
--- the same, where there may be no statement
-abbrev pub IsClearAt : Option Listed → List ℕ → Type 0
-IsClearAt None line = Unit {0}
-IsClearAt (Some listed) line = IsClearFor listed.stmt line
-
--- the line with which a process takes its next step: where its statement is a PRINT, it is empty, since each step makes
--- the line anew from the values that the statement has read
-pub record IsLineOf (program : Program) (p : Process) (line : List ℕ) : Type 0 where
-  pub clear : IsClearAt (listed_at program p) line
+  pub cells : length store ≡ length layout.first

@@ -1,132 +1,207 @@
--- The next event of a process, and how the process goes on (ANSI X3.9-1978, sections 10 to 12).
-use Rattle.std.specs.Prelude.{ℕ, suc, ◌+◌, ◌==◌, ℤ, Bool, true, false, List, [], ◌∷◌, ◌++◌, Option, None, Some, nat_lt, if◌then◌else◌}
+-- What a process does next, and how it goes on (ANSI X3.9-1978, sections 10 to 12).
+use Rattle.std.specs.Prelude.{ℕ, suc, ◌+◌, ◌==◌, ℤ, Bool, false, List, [], ◌∷◌, Option, None, Some, nat_lt, if◌then◌else◌}
+use Rattle.hyb_base.specs.declared.ops.RedOp.{RedOp}
+use Rattle.f77_ast.specs.declared.fault.Fault.{Fault}
+use Rattle.f77_ast.specs.declared.fault.Fault.TheVariants.{DoVariableWritten}
 use Rattle.f77_ast.specs.declared.program.Listed.{Listed}
 use Rattle.f77_ast.specs.declared.program.Loop.{Loop}
 use Rattle.f77_ast.specs.declared.program.Program.{Program}
+use Rattle.f77_ast.specs.declared.step.Control.{Control}
 use Rattle.f77_ast.specs.declared.step.Control.TheVariants.{Began, Turned}
-use Rattle.f77_ast.specs.declared.stmt.Stmt.{Stmt, Assign, Continue, Do, Print, End}
-use Rattle.f77_meaning.specs.Assign.{Written, written_of}
-use Rattle.f77_meaning.specs.Demand.{Demand, gives, wants, fails}
-use Rattle.f77_meaning.specs.Do.{Begun, begun_of, active_from, next_value}
-use Rattle.f77_meaning.specs.Event.{Event, reads, writes, moves, prints, ends, faults}
+use Rattle.f77_ast.specs.declared.stmt.Stmt.{Stmt, out-Stmt}
+use Rattle.f77_ast.specs.declared.stmt.Stmt.TheOpen.{Stmt-F}
+use Rattle.f77_ast.specs.declared.stmt.Stmt.TheOpen as layer
 use Rattle.f77_structure.specs.Loops.{loop_with_range_from}
 use Rattle.f77_structure.specs.Units.{statement_number}
-use Rattle.f77_meaning.specs.Print.{line_of_items}
-use Rattle.f77_meaning.specs.Process.{ActiveLoop, Process, listed_at}
+use Rattle.f77_meaning.specs.Assign.{Written, written_of}
+use Rattle.f77_meaning.specs.Demand.{Demand, gives, wants, calls, fails, setting_of}
+use Rattle.f77_meaning.specs.Do.{Begun, begun_of, active_from, next_value, turned}
+use Rattle.f77_meaning.specs.Event.{Event, reads, writes, takes, moves, prints, ends, faults}
+use Rattle.f77_meaning.specs.Print.{Printed, asks, enters, whole, stops, printed_of}
+use Rattle.f77_meaning.specs.Process.{ActiveLoop, Frame, Process, Stage, at_statement, at_inner, at_entry, at_increment, come_to, is_blocked, listed_of, with_answer, with_done}
 
--- a PRINT reads what its items ask for, and then prints its line
-abbrev pub print_event : Demand (List ℕ) → Event
-print_event (gives line rest) = prints line
-print_event (wants address) = reads address None
-print_event (fails fault) = faults fault
-
--- an assignment reads what it asks for, and then writes its unit
-abbrev pub write_event : Demand Written → Event
-write_event (gives written rest) = writes written.0 written.1 None None
-write_event (wants address) = reads address None
-write_event (fails fault) = faults fault
-
--- a DO statement reads what its parameters ask for, and then writes its variable: its loop begins (section 11.10.3)
-abbrev pub begin_event : Loop → Demand Begun → Event
-begin_event loop (gives begun rest) = writes begun.variable begun.first None (Some (Began loop.ordinal))
-begin_event loop (wants address) = reads address None
-begin_event loop (fails fault) = faults fault
-
--- the same, where the loop may not be known; each DO statement of an accepted program has its loop
-abbrev pub do_event : Option Loop → Demand Begun → Event
-do_event None begun = ends
-do_event (Some loop) begun = begin_event loop begun
-
--- the incrementation processing of the innermost active loop writes its variable (section 11.10.7)
-abbrev pub increment_event : List ActiveLoop → Event
-increment_event [] = ends
-increment_event (loop ∷ outer) = writes loop.variable (next_value loop) None (Some (Turned loop.ordinal))
-
--- the loop of the DO statement at a place of a unit
-abbrev pub loop_of_do : Program → (unit at : ℕ) → Option Loop
-loop_of_do program unit at = loop_with_range_from program.loops (statement_number program.units unit at + 1)
-
--- the next event of the statement at a place of a unit that has read these values: CONTINUE moves control (section
--- 11.11), END ends the run, as there is no unit but the main one yet (section 11.14). The other statements have no meaning yet, and no process of
--- an accepted program comes to one
-abbrev pub statement_event : Program → (unit at : ℕ) → Stmt → List ℤ → Event
-statement_event program unit at (Assign target value) answers = write_event (written_of program.layout unit target value answers)
-statement_event program unit at (Do terminal control) answers = do_event (loop_of_do program unit at) (begun_of program.layout unit control answers)
-statement_event program unit at Continue answers = moves
-statement_event program unit at (Print items) answers = print_event (line_of_items program.layout unit items answers)
-statement_event program unit at End answers = ends
-statement_event program unit at _ answers = ends
-
--- the same, where there may be no statement; no process of an accepted program goes past its END
-abbrev pub event_at : Program → (unit at : ℕ) → Option Listed → List ℤ → Event
-event_at program unit at None answers = ends
-event_at program unit at (Some listed) answers = statement_event program unit at listed.stmt answers
-
--- what a process does next: a function of the program and the process alone
-abbrev pub event : Program → Process → Event
-event program p = if p.increments then increment_event p.active else event_at program p.unit p.at (listed_at program p) p.answers
+-- what a process does next, with what stands of it once that is done: a read, with the last frame, those below it and the line
+-- that wait for the answer; a write, the next number of the input, a move or a line, with the frames after it; the end of the
+-- run; or a fault
+pub data Move : Type 0 where
+  reading : (address : ℕ) (by : Option RedOp) (frame : Frame) (below : List Frame) (line : List ℕ) → Move
+  writing : (address : ℕ) (value : ℤ) (by : Option RedOp) (control : Option Control) (after : List Frame) → Move
+  taking : (address : ℕ) (blocked : Bool) (after : List Frame) → Move
+  moving : (after : List Frame) → Move
+  printing : (text : List ℕ) (after : List Frame) → Move
+  ending : Move
+  failing : (fault : Fault) → Move
 
 -- whether a place is that of the terminal statement of the innermost of some active loops
 abbrev pub is_terminal : (at : ℕ) → List ActiveLoop → Bool
 is_terminal at [] = false
 is_terminal at (loop ∷ outer) = loop.last == at
 
--- a process that is done with the statement at a place: where that is the terminal statement of the innermost active
--- loop, this loop's incrementation processing comes next (section 11.10.6), and else the next statement
-abbrev pub past_statement : (unit at : ℕ) → List ActiveLoop → Process
-past_statement unit at active =
-    if is_terminal at active
-    then record { unit = unit; at = at; answers = []; active = active; increments = true }
-    else record { unit = unit; at = at + 1; answers = []; active = active; increments = false }
+-- a frame that is done with the statement at a place: where that is the terminal statement of the innermost active loop, this
+-- loop's incrementation processing comes next (section 11.10.6), and else the next statement
+abbrev pub past : (at : ℕ) → List ActiveLoop → Frame → Frame
+past at active frame = if is_terminal at active then come_to at at_increment active frame else come_to (at + 1) at_statement active frame
 
--- a process after a DO statement: its range is run where its count isn't zero. Where that is zero, control goes past the
--- range (section 11.10.4); where outer active loops have the same terminal statement, the iteration of the innermost of
--- these ends there, without the steps of that statement
-abbrev pub past_do : (unit : ℕ) → ActiveLoop → List ActiveLoop → Process
-past_do unit loop outer =
-    if loop.count == 0
-    then past_statement unit loop.last outer
-    else record { unit = unit; at = loop.from; answers = []; active = loop ∷ outer; increments = false }
+-- the same of the frame's own statement and loops
+abbrev pub past_statement : Frame → Frame
+past_statement frame = past frame.at frame.active frame
 
--- a process after the incrementation processing of its innermost active loop: the range is run again where iterations are
--- left, and else the loop is inactive, and its terminal statement is done for the loop around it (sections 11.10.2, 11.10.4
--- and 11.10.7)
-abbrev pub past_increment : (unit at : ℕ) → List ActiveLoop → Process
-past_increment unit at [] = past_statement unit at []
-past_increment unit at (loop ∷ outer) =
-    if nat_lt (suc loop.done) loop.count
-    then record { unit = unit; at = loop.from; answers = []; active = record loop { done = suc loop.done } ∷ outer; increments = false }
-    else past_statement unit at outer
+-- a frame after a DO statement: its range is run where its count isn't zero. Where that is zero, control goes past the range
+-- (section 11.10.4); where outer active loops have the same terminal statement, the iteration of the innermost of these ends
+-- there, without the steps of that statement
+abbrev pub past_do : ActiveLoop → Frame → Frame
+past_do loop frame = if loop.count == 0 then past loop.last frame.active frame else come_to loop.from at_statement (loop ∷ frame.active) frame
 
--- the same after a DO statement whose parameters may not be known yet
-abbrev pub after_begun : Process → Option Loop → Demand Begun → Process
-after_begun p (Some loop) (gives begun rest) = past_do p.unit (active_from p.at loop begun) p.active
-after_begun p _ _ = p
+-- a frame after the incrementation processing of its innermost active loop: the range is run again where iterations are left,
+-- and else the loop is inactive, and its terminal statement is done for the loop around it (sections 11.10.2, 11.10.4 and
+-- 11.10.7)
+abbrev pub past_increment : List ActiveLoop → Frame → Frame
+past_increment [] frame = past frame.at [] frame
+past_increment (loop ∷ outer) frame =
+    if nat_lt (suc loop.done) loop.count then come_to loop.from at_statement (turned loop ∷ outer) frame else past frame.at outer frame
 
--- a process after its statement
-abbrev pub after_statement : Program → Process → Stmt → Process
-after_statement program p (Do terminal control) = after_begun p (loop_of_do program p.unit p.at) (begun_of program.layout p.unit control p.answers)
-after_statement program p _ = past_statement p.unit p.at p.active
+-- a write, but by a loop's own control: to the variable of a running DO or implied DO it is a fault
+abbrev pub unless_blocked : (blocked : Bool) → Move → Move
+unless_blocked blocked move = if blocked then failing DoVariableWritten else move
 
-abbrev pub after_listed : Program → Process → Option Listed → Process
-after_listed program p None = p
-after_listed program p (Some listed) = after_statement program p listed.stmt
+-- the loop of the DO statement at a place of a unit
+abbrev pub loop_of_do : Program → (unit at : ℕ) → Option Loop
+loop_of_do program unit at = loop_with_range_from program.loops (statement_number program.units unit at + 1)
 
--- a process once the write, the move or the line that it comes to now is done: a function of the program and the process
--- alone; after other events it isn't asked
+-- the last frame of a process, those below it, and its line
+module _ (frame : Frame) (below : List Frame) (line : List ℕ) where
+  -- a PRINT reads what its items ask for, and then prints its line. No function is called yet
+  abbrev pub print_move : Printed → Move
+  print_move (asks address by p) = reading address by (with_done p.items p.cells p.answers frame) below p.line
+  print_move (enters unit bindings p) = ending
+  print_move (whole text) = printing text (past_statement frame ∷ below)
+  print_move (stops fault) = failing fault
+
+  -- an assignment reads what it asks for, and then writes
+  abbrev pub write_move : Demand Written → Move
+  write_move (gives w rest) = unless_blocked (is_blocked w.address (frame ∷ below)) (writing w.address w.value w.by None (past_statement frame ∷ below))
+  write_move (wants address by) = reading address by frame below line
+  write_move (calls unit bindings) = ending
+  write_move (fails fault) = failing fault
+
+  -- a DO statement reads what its parameters ask for, and then writes its variable: its loop begins (section 11.10.3)
+  abbrev pub begin_move : Loop → Demand Begun → Move
+  begin_move loop (gives b rest) =
+      unless_blocked (is_blocked b.variable (frame ∷ below)) (writing b.variable b.first None (Some (Began loop.ordinal)) (past_do (active_from frame.at loop b) frame ∷ below))
+  begin_move loop (wants address by) = reading address by frame below line
+  begin_move loop (calls unit bindings) = ending
+  begin_move loop (fails fault) = failing fault
+
+  -- the same, where the loop may not be known; each DO statement of an accepted program has its loop
+  abbrev pub do_move : Option Loop → Demand Begun → Move
+  do_move None begun = ending
+  do_move (Some loop) begun = begin_move loop begun
+
+  -- the incrementation processing of the innermost active loop writes its variable (section 11.10.7)
+  abbrev pub increment_move : List ActiveLoop → Move
+  increment_move [] = ending
+  increment_move (loop ∷ outer) = writing loop.variable (next_value loop) None (Some (Turned loop.ordinal)) (past_increment (loop ∷ outer) frame ∷ below)
+
+  module _ (program : Program) where
+    -- a statement: CONTINUE moves control (section 11.11), END ends the run, as there is no unit but the main one yet (section
+    -- 11.14). The others have no meaning yet or are no steps, and no process of an accepted program comes to one
+    abbrev pub layer_move : Stmt-F Stmt → Move
+    layer_move (layer.Assign target value) = write_move (written_of (setting_of program.layout frame) target value frame.answers)
+    layer_move (layer.Do terminal control) = do_move (loop_of_do program frame.unit frame.at) (begun_of (setting_of program.layout frame) control frame.answers)
+    layer_move layer.Continue = moving (past_statement frame ∷ below)
+    layer_move layer.Return = ending
+    layer_move layer.Else = ending
+    layer_move layer.EndIf = ending
+    layer_move layer.End = ending
+    layer_move (layer.Stop code) = ending
+    layer_move (layer.Goto label) = ending
+    layer_move (layer.ComputedGoto labels index) = ending
+    layer_move (layer.ArithmeticIf value negative zeroth positive) = ending
+    layer_move (layer.LogicalIf condition inner) = ending
+    layer_move (layer.BlockIf condition) = ending
+    layer_move (layer.ElseIf condition) = ending
+    layer_move (layer.Call name args) = ending
+    layer_move (layer.Print items) = print_move (printed_of (setting_of program.layout frame) items frame line)
+    layer_move (layer.Read items) = ending
+    layer_move (layer.Program name) = ending
+    layer_move (layer.Subroutine name dummies) = ending
+    layer_move (layer.Function typ name dummies) = ending
+    layer_move (layer.Declare typ entities) = ending
+    layer_move (layer.Dimension arrays) = ending
+    layer_move (layer.Common groups) = ending
+    layer_move (layer.Equivalence groups) = ending
+    layer_move (layer.Parameter constants) = ending
+    layer_move (layer.Implicit rules) = ending
+    layer_move (layer.Save entries) = ending
+    layer_move (layer.Init groups) = ending
+
+    abbrev pub statement_move : Stmt → Move
+    statement_move s = layer_move (out-Stmt s)
+
+    -- the same, where there may be no statement; no process of an accepted program goes past its END
+    abbrev pub listed_move : Option Listed → Move
+    listed_move None = ending
+    listed_move (Some listed) = statement_move listed.stmt
+
+    -- what a frame does next at its stage; a statement inside a logical IF and the entry of a unit have no meaning yet
+    abbrev pub stage_move : Stage → Move
+    stage_move at_statement = listed_move (listed_of program frame)
+    stage_move at_inner = ending
+    stage_move at_entry = ending
+    stage_move at_increment = increment_move frame.active
+
+-- what a process of these frames and this line does next, its last frame being the first of them
+abbrev pub frames_move : Program → List Frame → (line : List ℕ) → Move
+frames_move program [] line = ending
+frames_move program (frame ∷ below) line = stage_move frame below line program frame.stage
+
+-- what a process does next: a function of the program and the process alone
+abbrev pub move_of : Program → Process → Move
+move_of program p = frames_move program p.frames p.line
+
+-- the event of that
+abbrev pub event_of : Move → Event
+event_of (reading address by frame below line) = reads address by
+event_of (writing address value by control after) = writes address value by control
+event_of (taking address blocked after) = takes address blocked
+event_of (moving after) = moves
+event_of (printing text after) = prints text
+event_of ending = ends
+event_of (failing fault) = faults fault
+
+abbrev pub event : Program → Process → Event
+event program p = event_of (move_of program p)
+
+-- a process of these frames and this line
+abbrev pub process_with : (line : List ℕ) → List Frame → Process
+process_with line frames = record { frames = frames; line = line }
+
+-- a process once the write, the number taken, the move or the line that it comes to now is done; a printed line is begun anew.
+-- After other events it isn't asked
+abbrev pub done_by : Move → Process → Process
+done_by (reading address by frame below line) p = p
+done_by (writing address value by control after) p = process_with p.line after
+done_by (taking address blocked after) p = process_with p.line after
+done_by (moving after) p = process_with p.line after
+done_by (printing text after) p = process_with [] after
+done_by ending p = p
+done_by (failing fault) p = p
+
+-- a function of the program and the process alone
 abbrev pub once_done : Program → Process → Process
-once_done program p = if p.increments then past_increment p.unit p.at p.active else after_listed program p (listed_at program p)
+once_done program p = done_by (move_of program p) p
 
--- how a process goes on after an event, where a read was answered by this value: the statement that reads knows one
--- value more, and what writes, moves or prints is done; a process that has ended or met a fault stands still
-abbrev pub resumed_by : Event → (done : Process) → Process → (answer : ℤ) → Process
-resumed_by (reads address by) done p answer = record p { answers = p.answers ++ answer ∷ [] }
-resumed_by (writes address value by control) done p answer = done
-resumed_by moves done p answer = done
-resumed_by (prints line) done p answer = done
-resumed_by ends done p answer = p
-resumed_by (faults fault) done p answer = p
+-- how a process goes on after an event, where a read was answered by this value: what reads has one answer more, and what
+-- writes, takes, moves or prints is done; a process that has ended or met a fault stays where it is
+abbrev pub resumed_by : Move → Process → (answer : ℤ) → Process
+resumed_by (reading address by frame below line) p answer = process_with line (with_answer answer frame ∷ below)
+resumed_by (writing address value by control after) p answer = process_with p.line after
+resumed_by (taking address blocked after) p answer = process_with p.line after
+resumed_by (moving after) p answer = process_with p.line after
+resumed_by (printing text after) p answer = process_with [] after
+resumed_by ending p answer = p
+resumed_by (failing fault) p answer = p
 
--- how a process goes on: a function of the program, the process and the answer alone
+-- a function of the program, the process and the answer alone
 abbrev pub resumed : Program → Process → (answer : ℤ) → Process
-resumed program p answer = resumed_by (event program p) (once_done program p) p answer
+resumed program p answer = resumed_by (move_of program p) p answer

@@ -1,6 +1,0 @@
-pub mod Lines
-pub mod Room
-pub mod Runs
-pub mod Short
-pub mod Sound
-pub mod Stands
