@@ -7,10 +7,11 @@ use Rattle.std.specs.Option.{unwrap_or, option_map, option_map_or, option_to_lis
 use Rattle.f77_ast.specs.declared.program.Listed.{Listed}
 use Rattle.f77_loops.specs.declared.following.Following.{Following}
 use Rattle.f77_loops.specs.declared.ranges.Range.{Range}
-use Rattle.f77_loops.specs.Following.{number_at, last_by, is_closed_to, range_by, Knows}
+use Rattle.f77_loops.specs.Following.{last_by, is_closed_to, range_by, Knows}
 use Rattle.f77_loops.specs.Ranges.{range_from, ranges_in, barrier_in}
 use Rattle.f77_structure.specs.Labels.{has_label, distance_to}
 use Rattle.f77_structure.specs.Statements.{terminal_label, is_barrier}
+use Rattle.f77_structure.specs.Targets.{place_of}
 
 -- ---- closed loops
 
@@ -49,14 +50,14 @@ distance_before number label listed following = by (has_label label listed)
     by true = omega arith
     by false = omega arith
 
-last_before : (number label : ℕ) (listed : Listed) (following : List Listed) (old new : Following) → Knows (number + 1) following old → new.end ≡ old.end → number_at new.labels label ≡ (if has_label label listed then Some number else number_at old.labels label) → last_by new label ≡ number + distance_to label (listed ∷ following)
+last_before : (number label : ℕ) (listed : Listed) (following : List Listed) (old new : Following) → Knows (number + 1) following old → new.end ≡ old.end → place_of new.targets label ≡ (if has_label label listed then Some number else place_of old.targets label) → last_by new label ≡ number + distance_to label (listed ∷ following)
 last_before number label listed following old new knows behind noted =
     ap (λ o. unwrap_or o new.end) noted
-    ∙ ap (λ n. unwrap_or (if has_label label listed then Some number else number_at old.labels label) n) behind
+    ∙ ap (λ n. unwrap_or (if has_label label listed then Some number else place_of old.targets label) n) behind
     ∙ by (has_label label listed)
     ∙ sym (distance_before number label listed following)
   where
-    by : (b : Bool) → unwrap_or (if b then Some number else number_at old.labels label) old.end ≡ cond b number (number + 1 + distance_to label following)
+    by : (b : Bool) → unwrap_or (if b then Some number else place_of old.targets label) old.end ≡ cond b number (number + 1 + distance_to label following)
     by true = refl
     by false = knows.labels label
 
@@ -96,7 +97,7 @@ ranges_before number listed following known knows = by (terminal_label listed.st
 -- ---- all of it
 
 -- what is known after going back by a statement
-pub knows_before : (number : ℕ) (listed : Listed) (following : List Listed) (old new : Following) → Knows (number + 1) following old → new.end ≡ old.end → ((label : ℕ) → number_at new.labels label ≡ (if has_label label listed then Some number else number_at old.labels label)) → new.barrier ≡ (if is_barrier listed.stmt then Some number else old.barrier) → new.ranges.items ≡ old.ranges.items ++ option_to_list (option_map (range_by old) (terminal_label listed.stmt)) → Knows number (listed ∷ following) new
+pub knows_before : (number : ℕ) (listed : Listed) (following : List Listed) (old new : Following) → Knows (number + 1) following old → new.end ≡ old.end → ((label : ℕ) → place_of new.targets label ≡ (if has_label label listed then Some number else place_of old.targets label)) → new.barrier ≡ (if is_barrier listed.stmt then Some number else old.barrier) → new.ranges.items ≡ old.ranges.items ++ option_to_list (option_map (range_by old) (terminal_label listed.stmt)) → Knows number (listed ∷ following) new
 knows_before number listed following old new knows behind noted barrier added = record {
   behind = omega (arith, knows.behind);
   labels = λ label. last_before number label listed following old new knows behind (noted label);

@@ -1,21 +1,16 @@
 -- What the code knows of the statements that follow one.
 use Rattle.std.specs.Prelude.{◌≡◌, ℕ, ◌+◌, Bool, true, List, length, reverse, Option, None, Some, nat_eq, nat_lt}
-use Rattle.std.specs.HashMap.{get}
 use Rattle.std.specs.Option.{unwrap_or}
 use Rattle.f77_ast.specs.declared.program.Listed.{Listed}
 use Rattle.f77_loops.specs.declared.following.Following.{Following}
-use Rattle.f77_loops.specs.declared.labels.Labels.{Labels}
 use Rattle.f77_loops.specs.declared.ranges.Range.{Range}
 use Rattle.f77_loops.specs.Ranges.{ranges_in, barrier_in}
 use Rattle.f77_structure.specs.Labels.{distance_to}
-
--- the number that is noted for a label
-abbrev pub number_at : Labels → (label : ℕ) → Option ℕ
-number_at labels label = get nat_eq labels.numbers label
+use Rattle.f77_structure.specs.Targets.{place_of}
 
 -- the nearest executable statement that has this label, or the number behind the unit's last statement
 abbrev pub last_by : Following → (label : ℕ) → ℕ
-last_by known label = unwrap_or (number_at known.labels label) known.end
+last_by known label = unwrap_or (place_of known.targets label) known.end
 
 -- whether the nearest barrier, where there is one, stands behind a statement
 abbrev pub is_closed_to : (last : ℕ) → Option ℕ → Bool

@@ -5,11 +5,11 @@ ghost use Rattle.f77_ast.specs.declared.program.Listed.{Listed};
 ghost use Rattle.f77_structure.specs.Statements.{terminal_label, is_barrier};
 ghost use Rattle.f77_loops.specs.Following.{last_by, is_closed_to, range_by, Knows};
 
-use crate::labels::{Labels, no_labels, note, number_of};
 use crate::ranges::Range;
-use crate::statements::{is_barrier, terminal_label};
 use f77_ast::program::Listed;
 use f77_ast::stmt::{Label, Stmt};
+use f77_structure::statements::{is_barrier, terminal_label};
+use f77_structure::targets::Targets;
 use hyb_base::no_memory::NoMemory;
 use std::alloc::Global;
 
@@ -19,7 +19,7 @@ pub struct Following {
     /// The number of the statement after the unit's last one.
     pub end: u32,
     /// For each label the nearest executable statement that has it.
-    pub labels: Labels,
+    pub targets: Targets<u32>,
     /// The nearest barrier: no loop with it in its range is closed.
     pub barrier: Option<u32>,
     /// The ranges of their DO statements, the last one's first.
@@ -33,7 +33,7 @@ impl Following {
     {
         Following {
             end,
-            labels: no_labels(alloc),
+            targets: Targets::new(alloc),
             barrier: None,
             ranges: Vec::new(alloc),
         }
@@ -43,7 +43,7 @@ impl Following {
     fn last(&self, label: Label) -> u32
         ensures { result ≡ last_by self.now label }
     {
-        number_of(&self.labels, label).unwrap_or(self.end)
+        self.targets.find(label).unwrap_or(self.end)
     }
 
     /// Whether no statement up to this one is a barrier.
@@ -74,7 +74,7 @@ impl Following {
     {
         let range = self.range_of(&listed.stmt);
         add_range(&mut self.ranges, range)?;
-        note(&mut self.labels, number, listed)?;
+        self.targets.note(number, listed)?;
         self.barrier = barrier_before(self.barrier, number, &listed.stmt);
         Ok(())
     }

@@ -7,7 +7,5 @@
 #![tactic(auto)]
 
 mod following;
-mod labels;
 pub mod loops;
 mod ranges;
-mod statements;

@@ -8,8 +8,8 @@ ghost use Rattle.f77_loops.specs.Adding.{AreRangesOf, IsAdded};
 ghost use Rattle.f77_ast.specs.declared.program.Listed.{Listed};
 
 use crate::ranges::{Range, ranges_of};
-use crate::statements::terminal_label;
 use f77_ast::program::{Listed, Listing, Loop, Loops, Units};
+use f77_structure::statements::terminal_label;
 use hyb_base::list::List;
 use hyb_base::no_memory::NoMemory;
 use std::alloc::Global;

@@ -25,18 +25,6 @@ below_max a b c = grind (arith, nat_tests)
 
 -- ---- labels
 
--- the target of a label from one statement before
-pub target_back : (unit : List Listed) (place label : ℕ) (listed : Listed) → 0 < place → place ≤ length unit → listed ≡ get_or unit (place - 1) listed → target_from (place - 1) label (drop (place - 1) unit) ≡ (if has_label label listed then Some (place - 1) else target_from place label (drop place unit))
-target_back unit place label listed some within stands =
-    ap (target_from (place - 1) label) (drop_more unit (place - 1) listed (omega arith) ∙ ap (λ x. x ∷ drop (place - 1 + 1) unit) (sym stands) ∙ ap (λ n. listed ∷ drop n unit) back)
-    ∙ ap (λ n. if has_label label listed then Some (place - 1) else target_from n label (drop place unit)) next
-  where
-    back : place - 1 + 1 ≡ place
-    back = omega arith
-
-    next : suc (place - 1) ≡ place
-    next = omega arith
-
 -- a label that may be there is among those that were seen
 pub seen_is_any : (seen : ℕ → Bool) (label : Option ℕ) (listing : List Listed) → ((q : ℕ) → seen q ≡ list_any (λ other. is_label q other.card.label) listing) → is_seen seen label ≡ has_any label listing
 seen_is_any seen None listing same = refl

@@ -7,6 +7,7 @@ pub mod Ranges
 pub mod HasMeaning
 pub mod Statements
 pub mod Storage
+pub mod Targets
 pub mod Stretches
 pub mod Units
 pub mod Values

@@ -14,6 +14,7 @@ use Rattle.f77_ast.specs.declared.program.Place.{Place}
 use Rattle.f77_ast.specs.declared.program.Place.TheVariants.{Stored, Dummy, Constant}
 use Rattle.f77_ast.specs.declared.program.Region.{Region}
 use Rattle.f77_ast.specs.declared.specification.Bound.{Bound}
+use Rattle.f77_structure.specs.declared.storage.Span.{Span}
 
 -- the number that an expression is; none where it is no number
 abbrev pub literal_number : Expr-F Expr Part Ref → Option ℤ
@@ -30,11 +31,7 @@ abbrev pub bound_number : Option Expr → Option ℤ
 bound_number None = None
 bound_number (Some bound) = literal_number (out-Expr bound)
 
--- the lower and the upper bound of a dimension, as numbers (section 5.1.1.1)
-pub record Span : Type 0 where
-  pub low : ℤ
-  pub high : ℤ
-
+-- two bounds, where both are numbers
 abbrev pub span_with : Option ℤ → Option ℤ → Option Span
 span_with (Some low) (Some high) = Some (record { low = low; high = high })
 span_with (Some low) None = None

@@ -36,7 +36,7 @@ name_of (first ∷ following) = header_name first.stmt
 
 -- the code of no statement
 abbrev pub no_code : Code
-no_code = record { instrs = []; starts = []; texts = [] }
+no_code = record { instrs = []; starts = []; texts = []; nexts = []; targets = [] }
 
 -- a unit of these statements, whose code isn't made yet
 abbrev pub unit_of : List Listed → ProgramUnit

@@ -5,4 +5,9 @@
 //! them are here, each once.
 #![tactic(auto)]
 
+pub mod operators;
+pub mod statements;
+pub mod storage;
 pub mod stretches;
+pub mod targets;
+pub mod units;

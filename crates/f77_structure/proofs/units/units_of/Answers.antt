@@ -3,8 +3,8 @@ use Rattle.std.proofs.lemmas.List.{nil_from_length}
 use Rattle.std.specs.Vec.Iter.{into_iter_items}
 use Rattle.f77_ast.specs.declared.program.Unit.{Unit as ProgramUnit}
 use Rattle.f77_structure.specs.Units.{unit_of, units_of}
-use Rattle.f77_shape.proofs.UnitLemmas.{cut_from, cut_start, cut_on, cut_off}
-use Rattle.f77_shape.proofs.units.units_of.Goals as goal
+use Rattle.f77_structure.proofs.CutLemmas.{cut_from, cut_start, cut_on, cut_off}
+use Rattle.f77_structure.proofs.units.units_of.Goals as goal
 
 pub loop-listed-init : goal.loop-listed-init
 loop-listed-init c =

@@ -1,7 +1,7 @@
 use Rattle.std.proofs.Common.{◌≡◌, ℕ, ◌≤◌, length, drop}
 use Rattle.f77_structure.specs.Labels.{target_from}
-use Rattle.f77_shape.specs.Targets.{place_of}
-use Rattle.f77_shape.proofs.targets.targets_of.Given as goal
+use Rattle.f77_structure.specs.Targets.{place_of}
+use Rattle.f77_structure.proofs.targets.targets_of.Given as goal
 
 abbrev pub invariant-loop-place : goal.invariant-loop-place
 invariant-loop-place l = record {

@@ -1,7 +1,7 @@
 use Rattle.std.proofs.Common.{Some, if◌then◌else◌, ◌-◌, sym, ap, ◌∙◌, arith}
 use Rattle.f77_structure.specs.Labels.{has_label}
-use Rattle.f77_shape.proofs.RuleLemmas.{target_back}
-use Rattle.f77_shape.proofs.targets.targets_of.Goals as goal
+use Rattle.f77_structure.proofs.LabelLemmas.{target_back}
+use Rattle.f77_structure.proofs.targets.targets_of.Goals as goal
 
 pub loop-place-preserved : goal.loop-place-preserved
 loop-place-preserved c = record {

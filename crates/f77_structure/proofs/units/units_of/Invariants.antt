@@ -1,8 +1,8 @@
 use Rattle.std.proofs.Common.{◌≡◌, ◌++◌, map, length}
 use Rattle.std.specs.Vec.Iter.{into_iter_items, into_iter_len}
 use Rattle.f77_structure.specs.Units.{unit_of, units_of}
-use Rattle.f77_shape.proofs.UnitLemmas.{cut_from}
-use Rattle.f77_shape.proofs.units.units_of.Given as goal
+use Rattle.f77_structure.proofs.CutLemmas.{cut_from}
+use Rattle.f77_structure.proofs.units.units_of.Given as goal
 
 abbrev pub invariant-loop-listed : goal.invariant-loop-listed
 invariant-loop-listed l = record {
