@@ -1,0 +1,75 @@
+-- The numbers with which a DO statement begins.
+use Rattle.std.proofs.Common.{◌≡◌, ℕ, suc, ◌+◌, ◌<◌, ◌≤◌, ◌^◌, ◌==◌, ◌&&◌, ℤ, pos, List, [], ◌∷◌, All, length, Option, None, Some, refl, subst, arith, Bool, true, false, cond, find}
+use Rattle.f77_ast.specs.Entity.{entity_in, is_named}
+use Rattle.f77_ast.specs.declared.program.Entity.{Entity}
+use Rattle.f77_ast.specs.declared.fault.Fault.TheVariants.{Subscript, ZeroIncrement, DoRange}
+use Rattle.f77_ast.specs.declared.specification.Bound.{Bound}
+use Rattle.f77_ast.specs.declared.stmt.LoopControl.{LoopControl}
+use Rattle.f77_structure.specs.Storage.{IsStorage, LiesIn, is_scalar, start_of, storage_units_of, storage_units_by}
+use Rattle.f77_meaning.specs.Demand.{Demand, gives, wants, calls, fails, and_then, located, place_of, Setting}
+use Rattle.f77_meaning.specs.Do.{Begun, Parameters, begun_of, begun_with, parameters_of, is_in_range, is_zero, count_of, has_64_bits, value_after}
+use Rattle.f77_meaning.proofs.Frames.{Begins}
+
+-- what is found is one of the list
+found_holds : {X : Type 0} (P : X → Type 0) (test : X → Bool) (xs : List X) (x : X) → All P xs → find test xs ≡ Some x → P x
+found_holds P test [] x all e = absurd (cc)
+found_holds P test (y ∷ xs) x all e = by (test y) (found_holds P test xs x (λ k d h. all (suc k) d (omega (arith, h)))) e
+  where
+    by : (b : Bool) → (find test xs ≡ Some x → P x) → cond b (Some y) (find test xs) ≡ Some x → P x
+    by true rest e = let same : y ≡ x = cc in subst P same (all 0 y (omega arith))
+    by false rest e = rest e
+
+-- the entity of a name lies in storage, where all do
+pub entity_lies : (total : ℕ) (entities : List Entity) (unit : ℕ) (name : List ℕ) (entity : Entity) → All (LiesIn total) entities → entity_in entities unit name ≡ Some entity → LiesIn total entity
+entity_lies total entities unit name entity all e = found_holds (LiesIn total) (is_named unit name) entities entity all e
+
+-- both of two tests
+both : (a b : Bool) → (a && b) ≡ true → (a ≡ true) × (b ≡ true)
+both true b e = (refl, e)
+both false b e = absurd (cc)
+
+-- a variable of INTEGER or LOGICAL takes one address
+one_unit : (entity : Entity) → is_scalar entity.bounds ≡ true → storage_units_of entity ≡ 1
+one_unit entity e = by entity.bounds e
+  where
+    by : (bounds : List Bound) → is_scalar bounds ≡ true → storage_units_by bounds ≡ 1
+    by [] h = refl
+    by (b ∷ bounds) h = absurd (cc)
+
+-- the numbers with which a DO statement begins
+begun_numbers : (total variable : ℕ) (m : Parameters) (left rest : List ℤ) (begun : Begun) → variable < total → begun_with variable m left ≡ gives begun rest → Begins total begun
+begun_numbers total variable m left rest begun within e = by (is_zero m.increment) (is_in_range m) refl e
+  where
+    new : Begun
+    new = record { variable = variable; first = m.first; increment = m.increment; count = count_of m }
+
+    small : has_64_bits (pos (count_of m)) ≡ true → count_of m < 2 ^ 63
+    small h = grind (arith, h)
+
+    by : (z r : Bool) → is_in_range m ≡ r → cond z (fails ZeroIncrement) (cond r (gives new left) (fails DoRange)) ≡ gives begun rest → Begins total begun
+    by true r h e = absurd (cc)
+    by false false h e = absurd (cc)
+    by false true h e =
+        let same : new ≡ begun = cc in
+        let tests : (has_64_bits (pos (count_of m)) ≡ true) × (has_64_bits (value_after m.first m.increment (count_of m)) ≡ true) = both (has_64_bits (pos (count_of m))) (has_64_bits (value_after m.first m.increment (count_of m))) h in
+        subst (Begins total) same (record { count = small tests.0; end = tests.1; variable = within })
+
+-- the same of what a DO statement evaluates to
+pub begins_of : (s : Setting) (control : LoopControl) (answers rest : List ℤ) (begun : Begun) → IsStorage s.layout → begun_of s control answers ≡ gives begun rest → Begins (length s.layout.first) begun
+begins_of s control answers rest begun storage e = by (parameters_of s control answers) e
+  where
+    variable_by : (m : Parameters) (left : List ℤ) (entity : Entity) → entity_in s.layout.entities s.unit control.variable ≡ Some entity → (b : Bool) → is_scalar entity.bounds ≡ b → and_then (cond b (gives (place_of entity (start_of entity)) left) (fails Subscript)) (λ variable more. begun_with variable.address m more) ≡ gives begun rest → Begins (length s.layout.first) begun
+    variable_by m left entity h true scalar e =
+        let lies : LiesIn (length s.layout.first) entity = entity_lies (length s.layout.first) s.layout.entities s.unit control.variable entity storage.lie h in
+        begun_numbers (length s.layout.first) (start_of entity) m left rest begun (omega (arith, lies.within, one_unit entity scalar)) e
+    variable_by m left entity h false scalar e = absurd (cc)
+
+    entity_by : (m : Parameters) (left : List ℤ) (o : Option Entity) → entity_in s.layout.entities s.unit control.variable ≡ o → and_then (located o None left) (λ variable more. begun_with variable.address m more) ≡ gives begun rest → Begins (length s.layout.first) begun
+    entity_by m left None h e = absurd (cc)
+    entity_by m left (Some entity) h e = variable_by m left entity h (is_scalar entity.bounds) refl e
+
+    by : (d : Demand Parameters) → and_then d (λ m left. and_then (located (entity_in s.layout.entities s.unit control.variable) None left) (λ variable more. begun_with variable.address m more)) ≡ gives begun rest → Begins (length s.layout.first) begun
+    by (gives m left) e = entity_by m left (entity_in s.layout.entities s.unit control.variable) refl e
+    by (wants address op) e = absurd (cc)
+    by (calls unit bindings) e = absurd (cc)
+    by (fails fault) e = absurd (cc)

@@ -1,0 +1,4 @@
+pub mod Begins
+pub mod Frames
+pub mod Short
+pub mod Stands

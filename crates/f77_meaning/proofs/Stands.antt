@@ -1,0 +1,204 @@
+-- After each step of a process of a sound program, the process is one of the program.
+use Rattle.std.proofs.Common.{◌≡◌, ◌≢◌, ℕ, zero, suc, ◌+◌, ◌==◌, ◌≤◌, ℤ, List, [], ◌∷◌, ◌++◌, All, length, Option, None, Some, IsSome, IsTrue, refl, sym, ap, subst, ◌∙◌, arith, slice_get, Bool, true, false, cond}
+use Rattle.std.specs.Prelude.{nat_lt}
+use Rattle.hyb_base.specs.declared.ops.RedOp.{RedOp}
+use Rattle.f77_ast.specs.Limits.{most_line_bytes}
+use Rattle.f77_ast.specs.declared.program.Listed.{Listed}
+use Rattle.f77_ast.specs.declared.program.Loop.{Loop}
+use Rattle.f77_ast.specs.declared.program.Program.{Program}
+use Rattle.f77_ast.specs.declared.program.Unit.{Unit as ProgramUnit}
+use Rattle.f77_ast.specs.declared.step.Control.TheVariants.{Began}
+use Rattle.f77_ast.specs.declared.stmt.LoopControl.{LoopControl}
+use Rattle.f77_ast.specs.declared.stmt.Stmt.{Stmt, Assign, Continue, Do, Print}
+use Rattle.f77_structure.specs.Statements.{terminal_label}
+use Rattle.f77_structure.specs.Units.{first_executable, listing_of, main_of, EndsWithEnd}
+use Rattle.f77_structure.proofs.UnitLemmas.{goes_on, first_stands}
+use Rattle.f77_meaning.specs.Assign.{Written, written_of}
+use Rattle.f77_meaning.specs.Demand.{Demand, gives, wants, calls, fails, setting_of}
+use Rattle.f77_meaning.specs.Do.{Begun, begun_of, active_from, turned}
+use Rattle.f77_meaning.specs.Print.{Printed, asks, enters, whole, stops, printed_of}
+use Rattle.f77_meaning.specs.Process.{ActiveLoop, Frame, come_to, Process, Stage, at_statement, at_inner, at_entry, at_increment, first_frame, first_process, is_blocked, listed_of, with_answer, with_done}
+use Rattle.f77_meaning.specs.Sound.{AreActive, AreFrames, FitsStage, IsFrame, IsOf, IsSound}
+use Rattle.f77_meaning.specs.Step.{Move, reading, writing, taking, moving, printing, ending, failing, begin_move, do_move, frames_move, increment_move, is_terminal, listed_move, loop_of_do, move_of, once_done, past, past_do, past_increment, past_statement, print_move, resumed, stage_move, statement_move, write_move, unless_blocked, resumed_by}
+use Rattle.f77_io.specs.Number.{Taken, number, none, taken_of}
+use Rattle.f77_meaning.specs.StepOutcome.{on_input, taken_move}
+use Rattle.f77_meaning.proofs.Begins.{begins_of}
+use Rattle.f77_meaning.proofs.Frames.{is_some, past_is_frame, past_do_is_frame, past_increment_is_frame}
+use Rattle.f77_meaning.proofs.Short.{IsShort, printed_short}
+
+-- frames that a process goes on with: there is a last one, and all are of the program
+pub record Follow (program : Program) (frames : List Frame) : Type 0 where
+  pub some : IsSome (slice_get frames 0)
+  pub are : AreFrames program frames
+
+-- what comes after a step is of the program
+abbrev pub Leads : Program → Move → Type 0
+Leads program (reading address by frame below line) = AreFrames program (frame ∷ below) × (length line ≤ most_line_bytes)
+Leads program (writing address value by control after) = Follow program after
+Leads program (taking address blocked after) = Follow program after
+Leads program (moving after) = Follow program after
+Leads program (printing text after) = Follow program after
+Leads program ending = Unit {0}
+Leads program (failing fault) = Unit {0}
+
+-- another frame of the unit above the same ones
+above : (program : Program) (frame next : Frame) (below : List Frame) → AreFrames program (frame ∷ below) → next.unit ≡ frame.unit → IsFrame program next → AreFrames program (next ∷ below)
+above program frame next below are same is = (is, (subst (λ u. All (λ other. other.unit ≢ u) below) (sym same) are.1.0, are.1.1))
+
+follows : (program : Program) (frame next : Frame) (below : List Frame) → AreFrames program (frame ∷ below) → next.unit ≡ frame.unit → IsFrame program next → Follow program (next ∷ below)
+follows program frame next below are same is = record { some = refl; are = above program frame next below are same is }
+
+-- a frame with other items, addresses and answers
+reads_more : (program : Program) (frame : Frame) (items cells : ℕ) (answers : List ℤ) → IsFrame program frame → IsFrame program (with_done items cells answers frame)
+reads_more program frame items cells answers is = record { stands = is.stands; active = is.active; stage = fits frame.stage is.stage }
+  where
+    fits : (stage : Stage) → FitsStage stage frame → FitsStage stage (with_done items cells answers frame)
+    fits at_statement f = tt
+    fits at_inner f = f
+    fits at_entry f = f
+    fits at_increment f = f
+
+unblocked : (program : Program) (blocked : Bool) (move : Move) → Leads program move → Leads program (unless_blocked blocked move)
+unblocked program true move h = tt
+unblocked program false move h = h
+
+-- the unit stays
+unit_past : (at : ℕ) (active : List ActiveLoop) (frame : Frame) → (past at active frame).unit ≡ frame.unit
+unit_past at active frame = by (is_terminal at active)
+  where
+    by : (b : Bool) → (cond b (come_to at at_increment active frame) (come_to (at + 1) at_statement active frame)).unit ≡ frame.unit
+    by true = refl
+    by false = refl
+
+unit_past_do : (loop : ActiveLoop) (frame : Frame) → (past_do loop frame).unit ≡ frame.unit
+unit_past_do loop frame = by (loop.count == 0)
+  where
+    by : (b : Bool) → (cond b (past loop.last frame.active frame) (come_to loop.from at_statement (loop ∷ frame.active) frame)).unit ≡ frame.unit
+    by true = unit_past loop.last frame.active frame
+    by false = refl
+
+unit_past_increment : (active : List ActiveLoop) (frame : Frame) → (past_increment active frame).unit ≡ frame.unit
+unit_past_increment [] frame = unit_past frame.at [] frame
+unit_past_increment (loop ∷ outer) frame = by (nat_lt (suc loop.done) loop.count)
+  where
+    by : (b : Bool) → (cond b (come_to loop.from at_statement (turned loop ∷ outer) frame) (past frame.at outer frame)).unit ≡ frame.unit
+    by true = refl
+    by false = unit_past frame.at outer frame
+
+module _ (program : Program) (sound : IsSound program) (frame : Frame) (below : List Frame) (line : List ℕ) (are : AreFrames program (frame ∷ below)) (few : length line ≤ most_line_bytes) where
+  further : (listed : Listed) → listed_of program frame ≡ Some listed → goes_on listed.stmt → Follow program (past_statement frame ∷ below)
+  further listed e goes =
+      follows program frame (past_statement frame) below are (unit_past frame.at frame.active frame) (past_is_frame program frame frame.at frame.active listed sound e goes are.0.active)
+
+  printed : (listed : Listed) → listed_of program frame ≡ Some listed → goes_on listed.stmt → (p : Printed) → IsShort p → Leads program (print_move frame below line p)
+  printed listed e goes (asks address by p) short = (above program frame (with_done p.items p.cells p.answers frame) below are refl (reads_more program frame p.items p.cells p.answers are.0), short)
+  printed listed e goes (enters unit bindings p) short = tt
+  printed listed e goes (whole text) short = further listed e goes
+  printed listed e goes (stops fault) short = tt
+
+  written : (listed : Listed) → listed_of program frame ≡ Some listed → goes_on listed.stmt → (d : Demand Written) → Leads program (write_move frame below line d)
+  written listed e goes (gives w rest) =
+      unblocked program (is_blocked w.address (frame ∷ below)) (writing w.address w.value w.by None (past_statement frame ∷ below)) (further listed e goes)
+  written listed e goes (wants address by) = (are, few)
+  written listed e goes (calls unit bindings) = tt
+  written listed e goes (fails fault) = tt
+
+  begun : (listed : Listed) (label : ℕ) (control : LoopControl) → listed_of program frame ≡ Some listed → terminal_label listed.stmt ≡ Some label → (o : Option Loop) → loop_of_do program frame.unit frame.at ≡ o → (d : Demand Begun) → begun_of (setting_of program.layout frame) control frame.answers ≡ d → Leads program (do_move frame below line o d)
+  begun listed label control e names None found d h = tt
+  begun listed label control e names (Some loop) found (gives start rest) h =
+      let new : ActiveLoop = active_from frame.at loop start in
+      unblocked program (is_blocked start.variable (frame ∷ below)) (writing start.variable start.first None (Some (Began loop.ordinal)) (past_do new frame ∷ below))
+      (follows program frame (past_do new frame) below are (unit_past_do new frame)
+      (past_do_is_frame program frame label loop start sound (record { listed = listed; stands = e; names = names }) found (begins_of (setting_of program.layout frame) control frame.answers rest start sound.storage h) are.0.active))
+  begun listed label control e names (Some loop) found (wants address by) h = (are, few)
+  begun listed label control e names (Some loop) found (calls unit bindings) h = tt
+  begun listed label control e names (Some loop) found (fails fault) h = tt
+
+  stated : (listed : Listed) → listed_of program frame ≡ Some listed → (s : Stmt) → listed.stmt ≡ s → Leads program (statement_move frame below line program s)
+  stated listed e (Assign target value) h = written listed e (subst goes_on (sym h) tt) (written_of (setting_of program.layout frame) target value frame.answers)
+  stated listed e (Do terminal control) h = begun listed terminal control e (ap terminal_label h) (loop_of_do program frame.unit frame.at) refl (begun_of (setting_of program.layout frame) control frame.answers) refl
+  stated listed e Continue h = further listed e (subst goes_on (sym h) tt)
+  stated listed e (Print items) h =
+      let p : Printed = printed_of (setting_of program.layout frame) items frame line in
+      printed listed e (subst goes_on (sym h) tt) p (printed_short (setting_of program.layout frame) items frame line few)
+  stated listed e _ h = tt
+
+  here : (found : Option Listed) → listed_of program frame ≡ found → Leads program (listed_move frame below line program found)
+  here None e = tt
+  here (Some listed) e = stated listed e listed.stmt refl
+
+  turns : (active : List ActiveLoop) → frame.active ≡ active → IsTrue (is_terminal frame.at active) → Leads program (increment_move frame below line active)
+  turns [] h e = tt
+  turns (loop ∷ outer) h e =
+      follows program frame (past_increment (loop ∷ outer) frame) below are (unit_past_increment (loop ∷ outer) frame)
+      (past_increment_is_frame program frame (loop ∷ outer) sound are.0.stands (subst (λ a. AreActive program frame.unit frame.at frame.at a) h are.0.active) e)
+
+  staged : (stage : Stage) → FitsStage stage frame → Leads program (stage_move frame below line program stage)
+  staged at_statement fits = here (listed_of program frame) refl
+  staged at_inner fits = tt
+  staged at_entry fits = tt
+  staged at_increment fits = turns frame.active refl fits
+
+-- what a process of a program does next leads to processes of it
+pub leads : (program : Program) (frames : List Frame) (line : List ℕ) → IsSound program → AreFrames program frames → length line ≤ most_line_bytes → Leads program (frames_move program frames line)
+leads program [] line sound are few = tt
+leads program (frame ∷ below) line sound are few = staged program sound frame below line are few frame.stage are.0.stage
+
+-- a process that got an answer is one of the program, and so is one that is done with its step
+pub IsOf-resumed_by : (program : Program) (move : Move) (p : Process) (answer : ℤ) → IsOf program p → Leads program move → IsOf program (resumed_by move p answer)
+IsOf-resumed_by program (reading address by frame below line) p answer is h =
+    record { some = refl; frames = above program frame (with_answer answer frame) below h.0 refl (reads_more program frame frame.items frame.cells (frame.answers ++ answer ∷ []) h.0.0); line = h.1 }
+IsOf-resumed_by program (writing address value by control after) p answer is h = record { some = h.some; frames = h.are; line = is.line }
+IsOf-resumed_by program (taking address blocked after) p answer is h = record { some = h.some; frames = h.are; line = is.line }
+IsOf-resumed_by program (moving after) p answer is h = record { some = h.some; frames = h.are; line = is.line }
+IsOf-resumed_by program (printing text after) p answer is h = record { some = h.some; frames = h.are; line = omega arith }
+IsOf-resumed_by program ending p answer is h = is
+IsOf-resumed_by program (failing fault) p answer is h = is
+
+-- after each step of a process of a sound program, the process is one of the program
+pub IsOf-resumed : (program : Program) (p : Process) (answer : ℤ) → IsSound program → IsOf program p → IsOf program (resumed program p answer)
+IsOf-resumed program p answer sound is = IsOf-resumed_by program (move_of program p) p answer is (leads program p.frames p.line sound is.frames is.line)
+
+-- the same, on an input: the number that READ takes changes nothing of it
+pub leads_on_input : (program : Program) (move : Move) (input : List ℕ) → Leads program move → Leads program (on_input move input)
+leads_on_input program (reading address by frame below line) input h = h
+leads_on_input program (writing address value by control after) input h = h
+leads_on_input program (taking address blocked after) input h = taken (taken_of input)
+  where
+    taken : (t : Taken) → Leads program (taken_move t address blocked after)
+    taken (number value rest) = unblocked program blocked (writing address value None None after) h
+    taken (none fault) = tt
+leads_on_input program (moving after) input h = h
+leads_on_input program (printing text after) input h = h
+leads_on_input program ending input h = tt
+leads_on_input program (failing fault) input h = tt
+
+-- a printed line isn't past its limit
+abbrev pub PrintsShort : Move → Type 0
+PrintsShort (reading address by frame below line) = Unit {0}
+PrintsShort (writing address value by control after) = Unit {0}
+PrintsShort (taking address blocked after) = Unit {0}
+PrintsShort (moving after) = Unit {0}
+PrintsShort (printing text after) = length text ≤ most_line_bytes
+PrintsShort ending = Unit {0}
+PrintsShort (failing fault) = Unit {0}
+
+-- what holds of the statements of each unit holds of those of one that is there
+at_unit : (P : List Listed → Type 0) (units : List ProgramUnit) (u : ℕ) → All (λ unit. P unit.listing) units → IsSome (slice_get units u) → P (listing_of units u)
+at_unit P [] u all some = absurd (cc)
+at_unit P (first ∷ units) zero all some = all 0 first (omega arith)
+at_unit P (first ∷ units) (suc u) all some = at_unit P units u (λ k d h. all (suc k) d (omega (arith, h))) some
+
+-- before the first step, a process of a sound program is at a statement of the main unit, and no loop is active
+pub IsOf-first : (program : Program) → IsSound program → IsOf program (first_process program)
+IsOf-first program sound = record {
+  some = refl;
+  frames = (record { stands = stands; active = tt; stage = tt }, ((λ k other h. absurd (omega (arith, h))), tt));
+  line = omega arith;
+}
+  where
+    main : EndsWithEnd (listing_of program.units (main_of program.units))
+    main = at_unit EndsWithEnd program.units (main_of program.units) sound.ended sound.main
+
+    stands : IsSome (slice_get (listing_of program.units (main_of program.units)) (first_executable (listing_of program.units (main_of program.units))))
+    stands = subst (λ l. IsSome (slice_get l (first_executable l))) (sym main.joined) (first_stands main.before main.last main.is_end)
