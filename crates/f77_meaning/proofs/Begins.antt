@@ -5,8 +5,8 @@ use Rattle.f77_ast.specs.declared.program.Entity.{Entity}
 use Rattle.f77_ast.specs.declared.fault.Fault.TheVariants.{Subscript, ZeroIncrement, DoRange}
 use Rattle.f77_ast.specs.declared.specification.Bound.{Bound}
 use Rattle.f77_ast.specs.declared.stmt.LoopControl.{LoopControl}
-use Rattle.f77_structure.specs.Storage.{IsStorage, LiesIn, is_scalar, start_of, storage_units_of, storage_units_by}
-use Rattle.f77_meaning.specs.Demand.{Demand, gives, wants, calls, fails, and_then, located, place_of, Setting}
+use Rattle.f77_structure.specs.Storage.{IsStorage, LiesIn, address_of_variable, is_scalar, start_of, storage_units_of, storage_units_by}
+use Rattle.f77_meaning.specs.Demand.{Demand, gives, wants, calls, fails, and_then, located, place_by, Setting}
 use Rattle.f77_meaning.specs.Do.{Begun, Parameters, begun_of, begun_with, parameters_of, is_in_range, is_zero, count_of, has_64_bits, value_after}
 use Rattle.f77_meaning.proofs.Frames.{Begins}
 
@@ -58,7 +58,7 @@ begun_numbers total variable m left rest begun within e = by (is_zero m.incremen
 pub begins_of : (s : Setting) (control : LoopControl) (answers rest : List ℤ) (begun : Begun) → IsStorage s.layout → begun_of s control answers ≡ gives begun rest → Begins (length s.layout.first) begun
 begins_of s control answers rest begun storage e = by (parameters_of s control answers) e
   where
-    variable_by : (m : Parameters) (left : List ℤ) (entity : Entity) → entity_in s.layout.entities s.unit control.variable ≡ Some entity → (b : Bool) → is_scalar entity.bounds ≡ b → and_then (cond b (gives (place_of entity (start_of entity)) left) (fails Subscript)) (λ variable more. begun_with variable.address m more) ≡ gives begun rest → Begins (length s.layout.first) begun
+    variable_by : (m : Parameters) (left : List ℤ) (entity : Entity) → entity_in s.layout.entities s.unit control.variable ≡ Some entity → (b : Bool) → is_scalar entity.bounds ≡ b → and_then (place_by entity (cond b (Some (start_of entity)) None) left) (λ variable more. begun_with variable.address m more) ≡ gives begun rest → Begins (length s.layout.first) begun
     variable_by m left entity h true scalar e =
         let lies : LiesIn (length s.layout.first) entity = entity_lies (length s.layout.first) s.layout.entities s.unit control.variable entity storage.lie h in
         begun_numbers (length s.layout.first) (start_of entity) m left rest begun (omega (arith, lies.within, one_unit entity scalar)) e

@@ -4,14 +4,13 @@ use Rattle.std.proofs.lemmas.Bool.{leb-true}
 use Rattle.std.specs.Prelude.{nat_le, nat_lt}
 use Rattle.f77_ast.specs.Limits.{most_line_bytes}
 use Rattle.f77_ast.specs.declared.program.Entity.{Entity}
-use Rattle.f77_ast.specs.declared.stmt.Item.{Item, out-Item}
-use Rattle.f77_ast.specs.declared.stmt.Item.TheOpen.{Item-F}
-use Rattle.f77_ast.specs.declared.stmt.Item.TheOpen as layer
+use Rattle.f77_ast.specs.declared.stmt.Item.{Item}
+use Rattle.f77_ast.specs.declared.stmt.Item as item
 use Rattle.f77_structure.specs.Arrays.{array_named}
 use Rattle.f77_structure.specs.Storage.{start_of, storage_units_of}
-use Rattle.f77_structure.specs.Value.{Value, value_of_cells}
+use Rattle.f77_structure.specs.Values.{Value, value_of_units}
 use Rattle.f77_meaning.specs.Demand.{Demand, gives, wants, calls, fails, demand_of, Setting}
-use Rattle.f77_meaning.specs.Print.{Printing, Printed, asks, enters, whole, stops, text_of, with_text, or_blank, next_item, next_cell, within_limit, after_value, ask_element, after_elements, after_array_or_value, after_layer, after_item, after_items, printed_of}
+use Rattle.f77_meaning.specs.Print.{Printing, Printed, asks, enters, whole, stops, text_of, with_text, or_blank, next_item, next_cell, within_limit, after_value, ask_element, after_elements, after_array_or_value, after_item, after_items, printed_of}
 use Rattle.f77_meaning.specs.Process.{Frame}
 
 -- a line that was made isn't past its limit
@@ -51,15 +50,15 @@ element_short array p go h few = by (nat_lt p.cells (storage_units_of array))
 elements_short : (array : Entity) (answers : List ℤ) (p : Printing) (go : Printing → Printed) → GoesShort go → length p.line ≤ most_line_bytes → IsShort (after_elements array answers p go)
 elements_short array [] p go h few = element_short array p go h few
 elements_short array (value ∷ rest) p go h few =
-    text_short p.line (text_of (value_of_cells array.kind (value ∷ []))) (λ line. ask_element array (next_cell p line) go) (λ more fits. element_short array (next_cell p more) go h fits)
+    text_short p.line (text_of (value_of_units array.kind (value ∷ []))) (λ line. ask_element array (next_cell p line) go) (λ more fits. element_short array (next_cell p more) go h fits)
 
 array_or_value_short : (o : Option Entity) (value : List ℤ → Demand Value) (p : Printing) (go : Printing → Printed) → GoesShort go → length p.line ≤ most_line_bytes → IsShort (after_array_or_value o value p go)
 array_or_value_short (Some array) value p go h few = elements_short array p.answers p go h few
 array_or_value_short None value p go h few = value_short (value p.answers) p go h few
 
-layer_short : (s : Setting) (item : Item-F Item) (p : Printing) (go : Printing → Printed) → GoesShort go → length p.line ≤ most_line_bytes → IsShort (after_layer s item p go)
-layer_short s (layer.Plain expr) p go h few = array_or_value_short (array_named s.layout s.unit expr) (demand_of s expr) p go h few
-layer_short s (layer.Implied items control) p go h few = h (next_item p p.line) few
+item_short : (s : Setting) (i : Item) (p : Printing) (go : Printing → Printed) → GoesShort go → length p.line ≤ most_line_bytes → IsShort (after_item s i p go)
+item_short s (item.Plain expr) p go h few = array_or_value_short (array_named s.layout s.unit expr) (demand_of s expr) p go h few
+item_short s (item.Implied' items rest control) p go h few = h (next_item p p.line) few
 
 or_blank_short : (line : List ℕ) → length line ≤ most_line_bytes → length (or_blank line) ≤ most_line_bytes
 or_blank_short [] h = omega arith
@@ -67,7 +66,7 @@ or_blank_short (byte ∷ bytes) h = h
 
 items_short : (s : Setting) (items : List Item) (p : Printing) → length p.line ≤ most_line_bytes → IsShort (after_items s items p)
 items_short s [] p few = or_blank_short p.line few
-items_short s (item ∷ items) p few = layer_short s (out-Item item) p (after_items s items) (λ q h. items_short s items q h) few
+items_short s (first ∷ items) p few = item_short s first p (after_items s items) (λ q h. items_short s items q h) few
 
 -- the line of a PRINT that goes on from a short one
 pub printed_short : (s : Setting) (items : List Item) (frame : Frame) (line : List ℕ) → length line ≤ most_line_bytes → IsShort (printed_of s items frame line)

@@ -11,7 +11,7 @@ use Rattle.f77_ast.specs.declared.step.Control.TheVariants.{Began}
 use Rattle.f77_ast.specs.declared.stmt.LoopControl.{LoopControl}
 use Rattle.f77_ast.specs.declared.stmt.Stmt.{Stmt, Assign, Continue, Do, Print}
 use Rattle.f77_structure.specs.Statements.{terminal_label}
-use Rattle.f77_structure.specs.Units.{first_executable, listing_of, main_of, EndsWithEnd}
+use Rattle.f77_structure.specs.Units.{first_executable, listing_of, main_unit, EndsWithEnd}
 use Rattle.f77_structure.proofs.UnitLemmas.{goes_on, first_stands}
 use Rattle.f77_meaning.specs.Assign.{Written, written_of}
 use Rattle.f77_meaning.specs.Demand.{Demand, gives, wants, calls, fails, setting_of}
@@ -197,8 +197,8 @@ IsOf-first program sound = record {
   line = omega arith;
 }
   where
-    main : EndsWithEnd (listing_of program.units (main_of program.units))
-    main = at_unit EndsWithEnd program.units (main_of program.units) sound.ended sound.main
+    main : EndsWithEnd (listing_of program.units (main_unit program.units))
+    main = at_unit EndsWithEnd program.units (main_unit program.units) sound.ended sound.main
 
-    stands : IsSome (slice_get (listing_of program.units (main_of program.units)) (first_executable (listing_of program.units (main_of program.units))))
+    stands : IsSome (slice_get (listing_of program.units (main_unit program.units)) (first_executable (listing_of program.units (main_unit program.units))))
     stands = subst (λ l. IsSome (slice_get l (first_executable l))) (sym main.joined) (first_stands main.before main.last main.is_end)

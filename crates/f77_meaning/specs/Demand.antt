@@ -4,6 +4,7 @@
 use Rattle.std.specs.Prelude.{ℕ, zero, suc, ◌+◌, ℤ, pos, List, [], ◌∷◌, Option, None, Some, if◌then◌else◌}
 use Rattle.hyb_base.specs.declared.ops.RedOp.{RedOp}
 use Rattle.f77_ast.specs.declared.expr.Kind.{Kind}
+use Rattle.f77_ast.specs.declared.expr.Kind.TheVariants as kind
 use Rattle.f77_ast.specs.declared.expr.Expr.{Expr}
 use Rattle.f77_ast.specs.declared.expr.Expr.TheOpen.{Expr-F, Part-F, Ref-F}
 use Rattle.f77_ast.specs.declared.expr.Expr.TheOpen as layer
@@ -14,8 +15,8 @@ use Rattle.f77_ast.specs.declared.program.Layout.{Layout}
 use Rattle.f77_ast.specs.declared.fault.Fault.{Fault}
 use Rattle.f77_ast.specs.declared.fault.Fault.TheVariants.{Subscript}
 use Rattle.f77_ast.specs.Entity.{entity_in}
-use Rattle.f77_structure.specs.Storage.{is_scalar, start_of, address_of_element}
-use Rattle.f77_structure.specs.Values.{Value, integer, truth, chars, value_of_units, Operated, yields, breaks, means_nothing, number_of_truth, unary_of, binary_of}
+use Rattle.f77_structure.specs.Storage.{address_of_variable, address_of_element}
+use Rattle.f77_structure.specs.Values.{Value, integer, truth, chars, value_of_units, units_of_value, only_number, Operated, yields, breaks, means_nothing, unary_of, binary_of}
 use Rattle.f77_meaning.specs.Process.{Binding, Dimension, Frame}
 
 -- where an expression is evaluated: the layout, the unit, what its dummies are bound to, and the dimensions of its dummy arrays
@@ -44,21 +45,15 @@ and_then (wants address by) go = wants address by
 and_then (calls unit bindings) go = calls unit bindings
 and_then (fails fault) go = fails fault
 
--- the number that a value is written as: a truth is 1 or 0; characters are no one number
-abbrev pub number_of : Value → ℤ
-number_of (integer number) = number
-number_of (truth holds) = number_of_truth holds
-number_of (chars text) = pos 0
-
 -- what an expression evaluates to on these answers
 abbrev pub Evaluation : Type 0
 Evaluation = List ℤ → Demand Value
 
 -- what an operator gives; where the kinds of its operands aren't its own it has no meaning, and no accepted program has that
-abbrev pub applied : Operated → List ℤ → Demand Value
-applied (yields value) rest = gives value rest
-applied (breaks fault) rest = fails fault
-applied means_nothing rest = gives (integer (pos 0)) rest
+abbrev pub operated : Operated → List ℤ → Demand Value
+operated (yields value) rest = gives value rest
+operated (breaks fault) rest = fails fault
+operated means_nothing rest = gives (integer (pos 0)) rest
 
 -- the value at an address: the next answer, or it is read next
 abbrev pub cell_value : (address : ℕ) → List ℤ → Demand ℤ
@@ -70,15 +65,26 @@ abbrev pub cells_from : (address count : ℕ) → List ℤ → Demand (List ℤ)
 cells_from address zero answers = gives [] answers
 cells_from address (suc count) answers = and_then (cell_value address answers) (λ first rest. and_then (cells_from (address + 1) count rest) (λ others more. gives (first ∷ others) more))
 
--- a variable, or an element of an array: its type, its first address and the number of its addresses
+-- a variable, or an element of an array: its type, its first address, and the length of a character
 pub record Located : Type 0 where
   pub kind : Kind
   pub address : ℕ
   pub len : ℕ
 
+-- how many addresses a value of a type takes: one of INTEGER and LOGICAL, and one for each character of CHARACTER
+-- (section 4.1)
+abbrev pub width : Kind → (len : ℕ) → ℕ
+width kind.Integer len = 1
+width kind.Logical len = 1
+width kind.Character len = len
+
 -- its value: all of its addresses are read, in order
 abbrev pub value_at : Located → Evaluation
-value_at place answers = and_then (cells_from place.address place.len answers) (λ cells rest. gives (value_of_units place.kind cells) rest)
+value_at place answers = and_then (cells_from place.address (width place.kind place.len) answers) (λ cells rest. gives (value_of_units place.kind cells) rest)
+
+-- the number that a value is, or is written as: of a character its first number
+abbrev pub number_of : Value → ℤ
+number_of value = only_number (units_of_value value)
 
 -- what a reference stands for, on these answers
 abbrev pub Location : Type 0
@@ -88,22 +94,18 @@ Location = List ℤ → Demand Located
 abbrev pub place_of : Entity → (address : ℕ) → Located
 place_of entity address = record { kind = entity.kind; address = address; len = entity.len }
 
--- a variable
-abbrev pub variable_of : Entity → List ℤ → Demand Located
-variable_of entity rest = if is_scalar entity.bounds then gives (place_of entity (start_of entity)) rest else fails Subscript
-
--- an element that may be there; a subscript outside its bounds is a fault
-abbrev pub element_by : Entity → (address : Option ℕ) → List ℤ → Demand Located
-element_by entity (Some address) rest = gives (place_of entity address) rest
-element_by entity None rest = fails Subscript
+-- the place of an entity at an address that may be there; a subscript outside its bounds is a fault
+abbrev pub place_by : Entity → (address : Option ℕ) → List ℤ → Demand Located
+place_by entity (Some address) rest = gives (place_of entity address) rest
+place_by entity None rest = fails Subscript
 
 -- a variable, or an element: the subscript is evaluated, and then checked. More subscripts, and a substring's bounds, have no
 -- meaning yet; no accepted program has either
 abbrev pub located : Option Entity → Option (List Evaluation) → Location
 located None args answers = fails Subscript
-located (Some entity) None answers = variable_of entity answers
+located (Some entity) None answers = place_by entity (address_of_variable entity) answers
 located (Some entity) (Some []) answers = fails Subscript
-located (Some entity) (Some (subscript ∷ [])) answers = and_then (subscript answers) (λ s rest. element_by entity (address_of_element entity (number_of s)) rest)
+located (Some entity) (Some (subscript ∷ [])) answers = and_then (subscript answers) (λ s rest. place_by entity (address_of_element entity (number_of s)) rest)
 located (Some entity) (Some (subscript ∷ second ∷ others)) answers = fails Subscript
 
 -- one level: the left operand before the right one; a reference reads its subscript, and then its addresses
@@ -112,8 +114,8 @@ expr_step (layer.Int value) answers = gives (integer value) answers
 expr_step (layer.Truth value) answers = gives (truth value) answers
 expr_step (layer.Chars text) answers = gives (chars text) answers
 expr_step (layer.Ref place) answers = and_then (place answers) value_at
-expr_step (layer.Unary op operand) answers = and_then (operand answers) (λ x rest. applied (unary_of op x) rest)
-expr_step (layer.Binary op left right) answers = and_then (left answers) (λ x rest. and_then (right rest) (λ y more. applied (binary_of op x y) more))
+expr_step (layer.Unary op operand) answers = and_then (operand answers) (λ x rest. operated (unary_of op x) rest)
+expr_step (layer.Binary op left right) answers = and_then (left answers) (λ x rest. and_then (right rest) (λ y more. operated (binary_of op x y) more))
 expr_step (layer.Paren inner) answers = inner answers
 
 abbrev pub part_step : Part-F Evaluation (Unit {0}) Location → Unit {0}

@@ -4,9 +4,8 @@ use Rattle.hyb_base.specs.Decimal.{decimal_of}
 use Rattle.hyb_base.specs.declared.ops.RedOp.{RedOp}
 use Rattle.f77_ast.specs.Limits.{most_line_bytes}
 use Rattle.f77_ast.specs.declared.program.Entity.{Entity}
-use Rattle.f77_ast.specs.declared.stmt.Item.{Item, out-Item}
-use Rattle.f77_ast.specs.declared.stmt.Item.TheOpen.{Item-F}
-use Rattle.f77_ast.specs.declared.stmt.Item.TheOpen as layer
+use Rattle.f77_ast.specs.declared.stmt.Item.{Item}
+use Rattle.f77_ast.specs.declared.stmt.Item as item
 use Rattle.f77_ast.specs.declared.fault.Fault.{Fault}
 use Rattle.f77_ast.specs.declared.fault.Fault.TheVariants.{LineLimit}
 use Rattle.f77_structure.specs.Arrays.{array_named}
@@ -87,17 +86,14 @@ after_array_or_value None value p go = after_value (value p.answers) p go
 
 module _ (s : Setting) where
   -- after one item: an array's name is its elements, and another expression its value; an implied DO has no meaning yet
-  abbrev pub after_layer : Item-F Item → Printing → (Printing → Printed) → Printed
-  after_layer (layer.Plain expr) p go = after_array_or_value (array_named s.layout s.unit expr) (demand_of s expr) p go
-  after_layer (layer.Implied items control) p go = go (next_item p p.line)
-
   abbrev pub after_item : Item → Printing → (Printing → Printed) → Printed
-  after_item item p go = after_layer (out-Item item) p go
+  after_item (item.Plain expr) p go = after_array_or_value (array_named s.layout s.unit expr) (demand_of s expr) p go
+  after_item (item.Implied' items rest control) p go = go (next_item p p.line)
 
   -- after some items, from left to right: where all are done, the line is whole, and one blank where no item gave a text
   abbrev pub after_items : List Item → Printing → Printed
   after_items [] p = whole (or_blank p.line)
-  after_items (item ∷ items) p = after_item item p (after_items items)
+  after_items (first ∷ items) p = after_item first p (after_items items)
 
   -- where the PRINT of a frame comes to, with this line so far
   abbrev pub printed_of : List Item → Frame → (line : List ℕ) → Printed

@@ -6,9 +6,9 @@ use Rattle.f77_ast.specs.declared.program.Listed.{Listed}
 use Rattle.f77_ast.specs.declared.program.Loop.{Loop}
 use Rattle.f77_ast.specs.declared.program.Program.{Program}
 use Rattle.f77_ast.specs.declared.program.Unit.{Unit as ProgramUnit}
+use Rattle.f77_structure.specs.HasMeaning.{statement_has_meaning}
 use Rattle.f77_structure.specs.Loops.{loops_of}
 use Rattle.f77_structure.specs.Ranges.{IsDo, RangesNest, terminal_at}
-use Rattle.f77_structure.specs.HasMeaning.{statement_has_meaning}
 use Rattle.f77_structure.specs.Storage.{IsStorage}
 use Rattle.f77_structure.specs.Units.{EndsWithEnd, listing_of, main_unit, statement_count}
 use Rattle.f77_meaning.specs.Do.{has_64_bits, value_after}
@@ -21,7 +21,7 @@ use Rattle.f77_meaning.specs.Step.{is_terminal, loop_of_do}
 pub record IsSound (program : Program) : Type 0 where
   pub main : IsSome (slice_get program.units (main_unit program.units))
   pub ended : All (λ unit. EndsWithEnd unit.listing) program.units
-  pub resolved : (u : ℕ) (unit : ProgramUnit) → slice_get program.units u ≡ Some unit → All (λ listed. IsTrue (statement_has_meaning program.layout u listed.stmt)) unit.listing
+  pub meaning : (u : ℕ) (unit : ProgramUnit) → slice_get program.units u ≡ Some unit → All (λ listed. IsTrue (statement_has_meaning program.layout u listed.stmt)) unit.listing
   pub storage : IsStorage program.layout
   pub loops : program.loops ≡ loops_of program.units
   pub ranges : All (λ unit. RangesNest unit.listing) program.units

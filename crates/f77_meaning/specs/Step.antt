@@ -8,9 +8,8 @@ use Rattle.f77_ast.specs.declared.program.Loop.{Loop}
 use Rattle.f77_ast.specs.declared.program.Program.{Program}
 use Rattle.f77_ast.specs.declared.step.Control.{Control}
 use Rattle.f77_ast.specs.declared.step.Control.TheVariants.{Began, Turned}
-use Rattle.f77_ast.specs.declared.stmt.Stmt.{Stmt, out-Stmt}
-use Rattle.f77_ast.specs.declared.stmt.Stmt.TheOpen.{Stmt-F}
-use Rattle.f77_ast.specs.declared.stmt.Stmt.TheOpen as layer
+use Rattle.f77_ast.specs.declared.stmt.Stmt.{Stmt}
+use Rattle.f77_ast.specs.declared.stmt.Stmt as stmt
 use Rattle.f77_structure.specs.Loops.{loop_with_range_from}
 use Rattle.f77_structure.specs.Units.{statement_number}
 use Rattle.f77_meaning.specs.Assign.{Written, written_of}
@@ -105,38 +104,35 @@ module _ (frame : Frame) (below : List Frame) (line : List ℕ) where
   module _ (program : Program) where
     -- a statement: CONTINUE moves control (section 11.11), END ends the run, as there is no unit but the main one yet (section
     -- 11.14). The others have no meaning yet or are no steps, and no process of an accepted program comes to one
-    abbrev pub layer_move : Stmt-F Stmt → Move
-    layer_move (layer.Assign target value) = write_move (written_of (setting_of program.layout frame) target value frame.answers)
-    layer_move (layer.Do terminal control) = do_move (loop_of_do program frame.unit frame.at) (begun_of (setting_of program.layout frame) control frame.answers)
-    layer_move layer.Continue = moving (past_statement frame ∷ below)
-    layer_move layer.Return = ending
-    layer_move layer.Else = ending
-    layer_move layer.EndIf = ending
-    layer_move layer.End = ending
-    layer_move (layer.Stop code) = ending
-    layer_move (layer.Goto label) = ending
-    layer_move (layer.ComputedGoto labels index) = ending
-    layer_move (layer.ArithmeticIf value negative zeroth positive) = ending
-    layer_move (layer.LogicalIf condition inner) = ending
-    layer_move (layer.BlockIf condition) = ending
-    layer_move (layer.ElseIf condition) = ending
-    layer_move (layer.Call name args) = ending
-    layer_move (layer.Print items) = print_move (printed_of (setting_of program.layout frame) items frame line)
-    layer_move (layer.Read items) = ending
-    layer_move (layer.Program name) = ending
-    layer_move (layer.Subroutine name dummies) = ending
-    layer_move (layer.Function typ name dummies) = ending
-    layer_move (layer.Declare typ entities) = ending
-    layer_move (layer.Dimension arrays) = ending
-    layer_move (layer.Common groups) = ending
-    layer_move (layer.Equivalence groups) = ending
-    layer_move (layer.Parameter constants) = ending
-    layer_move (layer.Implicit rules) = ending
-    layer_move (layer.Save entries) = ending
-    layer_move (layer.Init groups) = ending
-
     abbrev pub statement_move : Stmt → Move
-    statement_move s = layer_move (out-Stmt s)
+    statement_move (stmt.Assign target value) = write_move (written_of (setting_of program.layout frame) target value frame.answers)
+    statement_move (stmt.Do terminal control) = do_move (loop_of_do program frame.unit frame.at) (begun_of (setting_of program.layout frame) control frame.answers)
+    statement_move stmt.Continue = moving (past_statement frame ∷ below)
+    statement_move stmt.Return = ending
+    statement_move stmt.Else = ending
+    statement_move stmt.EndIf = ending
+    statement_move stmt.End = ending
+    statement_move (stmt.Stop code) = ending
+    statement_move (stmt.Goto label) = ending
+    statement_move (stmt.ComputedGoto labels index) = ending
+    statement_move (stmt.ArithmeticIf value negative zeroth positive) = ending
+    statement_move (stmt.LogicalIf' condition pointer inner) = ending
+    statement_move (stmt.BlockIf condition) = ending
+    statement_move (stmt.ElseIf condition) = ending
+    statement_move (stmt.Call name args) = ending
+    statement_move (stmt.Print items) = print_move (printed_of (setting_of program.layout frame) items frame line)
+    statement_move (stmt.Read items) = ending
+    statement_move (stmt.Program name) = ending
+    statement_move (stmt.Subroutine name dummies) = ending
+    statement_move (stmt.Function typ name dummies) = ending
+    statement_move (stmt.Declare typ entities) = ending
+    statement_move (stmt.Dimension arrays) = ending
+    statement_move (stmt.Common groups) = ending
+    statement_move (stmt.Equivalence groups) = ending
+    statement_move (stmt.Parameter constants) = ending
+    statement_move (stmt.Implicit rules) = ending
+    statement_move (stmt.Save entries) = ending
+    statement_move (stmt.Init groups) = ending
 
     -- the same, where there may be no statement; no process of an accepted program goes past its END
     abbrev pub listed_move : Option Listed → Move
