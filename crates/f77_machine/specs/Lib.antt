@@ -1,6 +1,8 @@
 pub mod Active
+pub mod Setting
 pub mod Evaluated
 pub mod Begun
+pub mod Assign
 pub mod Chain
 pub mod Loops
 pub mod Print
