@@ -1,24 +1,24 @@
 //! The line that PRINT builds (ANSI X3.9-1978, section 12.8; list-directed output, section 13.6, is this project's own).
-ghost use Rattle.std.specs.Prelude.{◌≤◌, vec_capacity};
+ghost use Rattle.std.specs.Prelude.{◌<◌, vec_capacity};
+ghost use Rattle.f77_ast.specs.Limits.{most_line_bytes};
 
 use f77_ast::fault::Fault;
+use f77_ast::limits::MOST_LINE_BYTES;
 use hyb_base::decimal::Decimal;
 use hyb_base::no_memory::NoMemory;
 use std::alloc::Global;
-
-/// The greatest number of bytes of a line.
-pub const LINE_LIMIT: usize = 10_000;
 
 /// A line of 10,000 bytes at most, and its LF. Its room is reserved when it is made, so no call of it takes memory.
 #[derive(Drop)]
 pub struct Line {
     bytes: Vec<u8>,
-    ghost reserved: { 10001 ≤ vec_capacity bytes },
+    ghost reserved: { most_line_bytes < vec_capacity bytes },
 }
 
 impl Line {
     ghost use Rattle.std.specs.Prelude.{◌≡◌, ◌≤◌, ◌↔◌, [], ◌∷◌, ◌++◌, length, take, IfOk, IfErr, OnOk, OnErr, IsErr};
     ghost use Rattle.hyb_base.specs.Decimal.{decimal_of};
+    ghost use Rattle.f77_ast.specs.Limits.{most_line_bytes};
     ghost use Rattle.f77_ast.specs.declared.fault.Fault.TheVariants.{LineLimit};
     ghost use Rattle.f77_io.specs.Line.{text_of, IsPastLimit, logical_text};
 
@@ -27,7 +27,7 @@ impl Line {
         ensures { IfOk result (λ line. text_of line ≡ []) }
     {
         Ok(Line {
-            bytes: Vec::with_capacity(alloc, LINE_LIMIT + 1)?,
+            bytes: Vec::with_capacity(alloc, MOST_LINE_BYTES + 1)?,
         })
     }
 
@@ -65,7 +65,7 @@ impl Line {
         ensures limit { IsErr result ↔ IsPastLimit (text_of self.old) v.now }
         ensures fault { IfErr result (λ fault. fault ≡ LineLimit) }
     {
-        if self.bytes.len() + 1 + v.len() > LINE_LIMIT {
+        if self.bytes.len() + 1 + v.len() > MOST_LINE_BYTES {
             return Err(Fault::LineLimit);
         }
         self.bytes.push_reserved(b' ');
@@ -83,7 +83,7 @@ impl Line {
 
     /// Ends the line: adds its LF, for which there is room.
     pub fn finish(&mut self)
-        requires { length (text_of self.old) ≤ 10000 }
+        requires { length (text_of self.old) ≤ most_line_bytes }
         ensures { text_of self.new ≡ text_of self.old ++ 10 ∷ [] }
     {
         self.bytes.push_reserved(b'\n');

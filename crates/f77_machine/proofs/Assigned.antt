@@ -2,10 +2,10 @@
 use Rattle.std.proofs.Common.{◌≡◌, ℕ, ℤ, pos, List, Option, None, Some, refl}
 use Rattle.std.specs.Option.{option_map}
 use Rattle.f77_meaning.specs.Assign.{Accumulation, Written, accumulated, written_by}
-use Rattle.f77_meaning.specs.Demand.{Demand, Evaluation}
-use Rattle.f77_machine.specs.Chain.{accumulation_at}
+use Rattle.f77_meaning.specs.Demand.{Demand, Evaluation, Located}
+use Rattle.f77_machine.specs.Chain.{OfAccumulation, accumulation_at}
 
 -- an assignment of which a right side with v held open is known is an accumulation
-pub is_accumulated : (o : Option Accumulation) (address : ℕ) (value : Evaluation) (rest : List ℤ) (first : Demand ℤ) (d : Demand Written) → Some first ≡ option_map (accumulation_at (pos 0) rest) o → ((h : Accumulation) → o ≡ Some h → d ≡ accumulated address h rest) → d ≡ written_by o address value rest
-is_accumulated None address value rest first d e f = absurd (cc)
-is_accumulated (Some h) address value rest first d e f = f h refl
+pub is_accumulated : (o : Option Accumulation) (place : Located) (value : Evaluation) (rest : List ℤ) (first : OfAccumulation) (d : Demand Written) → Some first ≡ option_map (accumulation_at (pos 0) rest) o → ((h : Accumulation) → o ≡ Some h → d ≡ accumulated place h rest) → d ≡ written_by o place value rest
+is_accumulated None place value rest first d e f = absurd (cc)
+is_accumulated (Some h) place value rest first d e f = f h refl

@@ -1,42 +1,60 @@
 -- Items of a line of PRINT.
-use Rattle.std.proofs.Common.{◌≡◌, ℕ, suc, ◌+◌, ◌-◌, ◌<◌, ◌≤◌, ℤ, pos, negsuc, Bool, true, false, List, ◌∷◌, ◌++◌, length, refl, sym, subst, ap, ◌∙◌, arith, w64, FitsSigned, length-append}
-use Rattle.std.specs.Prelude.{nat_le}
-use Rattle.hyb_base.specs.Decimal.{decimal_of, IsTextOf}
-use Rattle.hyb_base.proofs.Decimals.{reads_back}
-use Rattle.f77_meaning.specs.Demand.{Demand, and_then, unit_value}
-use Rattle.f77_meaning.specs.Print.{line_limit, after_units, with_value}
-use Rattle.f77_machine.specs.Line.{IsPastLimit}
+use Rattle.std.proofs.Common.{◌≡◌, ℕ, zero, suc, ◌+◌, ◌<◌, ◌≤◌, List, [], ◌∷◌, ◌++◌, length, take, drop, Bool, true, false, None, Some, refl, sym, ap, ◌∙◌, arith, length-append}
+use Rattle.std.specs.Prelude.{nat_le, max}
+use Rattle.f77_ast.specs.Limits.{most_line_bytes}
+use Rattle.f77_ast.specs.declared.program.Layout.{Layout}
+use Rattle.f77_ast.specs.declared.stmt.Item.{Item}
+use Rattle.f77_io.specs.Line.{IsPastLimit}
+use Rattle.f77_meaning.specs.Print.{with_text}
+use Rattle.f77_machine.specs.Print.{BeginsWith}
+use Rattle.f77_machine.specs.Reads.{most_reads}
 
--- the text of a number isn't empty
-text_holds : (z : ℤ) (text : List ℕ) → IsTextOf z text → 1 ≤ length text
-text_holds (pos n) text t = omega (arith, t.digits.1)
-text_holds (negsuc n) text t = omega (arith, ap length t.1)
-
--- a line that took a blank and the text of a number is longer by two bytes or more, and no longer than a line may be, where it
--- isn't past the limit
-pub grown_by : (old new : List ℕ) (z : ℤ) → FitsSigned w64 z → new ≡ old ++ (32 ∷ decimal_of z) → (IsPastLimit old (decimal_of z) → ⊥) → (length old + 2 ≤ length new) × (length new ≤ line_limit)
-grown_by old new z f e within =
-    let long : length new ≡ length old + (1 + length (decimal_of z)) = omega (arith, ap length e, length-append old (32 ∷ decimal_of z)) in
-    (omega (arith, long, text_holds z (decimal_of z) (reads_back z f)), subst (λ n. n ≤ line_limit) (sym long) (not_past (length old + (1 + length (decimal_of z))) within))
+-- a text goes into the line where the line isn't past its limit then
+pub text_goes : (line text : List ℕ) → (IsPastLimit line text → ⊥) → with_text line text ≡ Some (line ++ (32 ∷ text))
+text_goes line text within = by (nat_le (length line + (1 + length text)) most_line_bytes) refl
   where
-    not_past : (n : ℕ) → (line_limit < n → ⊥) → n ≤ line_limit
-    not_past n h = by (nat_le n line_limit) refl
-      where
-        by : (b : Bool) → nat_le n line_limit ≡ b → n ≤ line_limit
-        by true e = grind (arith, e)
-        by false e = absurd (h (grind (arith, e)))
+    by : (b : Bool) → nat_le (length line + (1 + length text)) most_line_bytes ≡ b → with_text line text ≡ Some (line ++ (32 ∷ text))
+    by true e = rw e refl
+    by false e = absurd (within (grind (arith, e)))
 
--- of the units that are left, the first goes into the line, and then the others
-pub units_go_on : (address place count : ℕ) (line : List ℕ) (left : List ℤ) (d : Demand (List ℕ)) → place < count → d ≡ with_value line (unit_value (address + place) left) → after_units (address + place) (count - place) line left ≡ and_then d (λ more rest. after_units (address + (place + 1)) (count - (place + 1)) more rest)
-units_go_on address place count line left d h e =
-    let fewer : count - place ≡ suc (count - (place + 1)) = omega (arith, h) in
-    let next : address + place + 1 ≡ address + (place + 1) = omega arith in
-    ap (λ n. after_units (address + place) n line left) fewer
-    ∙ ap (λ a. and_then (with_value line (unit_value (address + place) left)) (λ more rest. after_units a (count - (place + 1)) more rest)) next
-    ∙ ap (λ x. and_then x (λ more rest. after_units (address + (place + 1)) (count - (place + 1)) more rest)) (sym e)
+-- and else it doesn't
+pub text_stays : (line text : List ℕ) → IsPastLimit line text → with_text line text ≡ None
+text_stays line text past = by (nat_le (length line + (1 + length text)) most_line_bytes) refl
+  where
+    by : (b : Bool) → nat_le (length line + (1 + length text)) most_line_bytes ≡ b → with_text line text ≡ None
+    by true e = absurd (grind (arith, e, past))
+    by false e = rw e refl
 
--- no unit is left
-pub units_end : (address place count : ℕ) (line : List ℕ) (left : List ℤ) → count ≤ place → after_units (address + place) (count - place) line left ≡ after_units (address + place) 0 line left
-units_end address place count line left h =
-    let none : count - place ≡ 0 = omega (arith, h) in
-    ap (λ n. after_units (address + place) n line left) none
+-- a list begins with itself
+pub begins_self : {X : Type 0} (xs : List X) → BeginsWith xs xs
+begins_self xs = record { shorter = omega arith; same = all xs }
+  where
+    all : {X : Type 0} (ys : List X) → take (length ys) ys ≡ ys
+    all [] = refl
+    all (y ∷ ys) = ap (λ zs. y ∷ zs) (all ys)
+
+-- with none
+pub begins_none : {X : Type 0} (xs : List X) → BeginsWith xs []
+begins_none xs = record { shorter = omega arith; same = refl }
+
+-- with what others are added to
+pub begins_joined : {X : Type 0} (xs ys : List X) → BeginsWith (xs ++ ys) xs
+begins_joined [] ys = record { shorter = omega arith; same = refl }
+begins_joined (x ∷ xs) ys =
+    let rest : BeginsWith (xs ++ ys) xs = begins_joined xs ys in
+    record { shorter = omega (arith, rest.shorter); same = ap (λ zs. x ∷ zs) rest.same }
+
+-- what begins a list that begins another begins that one
+pub begins_along : {X : Type 0} (xs ys zs : List X) → BeginsWith xs ys → BeginsWith ys zs → BeginsWith xs zs
+begins_along xs ys [] a b = begins_none xs
+begins_along xs [] (z ∷ zs) a b = absurd (omega (arith, b.shorter))
+begins_along [] (y ∷ ys) (z ∷ zs) a b = absurd (omega (arith, a.shorter))
+begins_along (x ∷ xs) (y ∷ ys) (z ∷ zs) a b =
+    let rest : BeginsWith xs zs = begins_along xs ys zs (record { shorter = omega (arith, a.shorter); same = cc }) (record { shorter = omega (arith, b.shorter); same = cc }) in
+    record { shorter = omega (arith, rest.shorter); same = ap (λ ws. x ∷ ws) rest.same ∙ cc }
+
+-- no item that is left needs more than the most of all
+pub most_left : (layout : Layout) (unit place : ℕ) (items : List Item) → most_reads layout unit (drop place items) ≤ most_reads layout unit items
+most_left layout unit zero items = omega arith
+most_left layout unit (suc place) [] = omega arith
+most_left layout unit (suc place) (item ∷ items) = omega (arith, most_left layout unit place items)

@@ -1,9 +1,12 @@
 pub mod Actives
 pub mod Assigned
+pub mod Blocked
+pub mod Cells
 pub mod Chains
 pub mod Counts
-pub mod Entities
 pub mod Halves
 pub mod Items
-pub mod Numbers
+pub mod Mains
+pub mod Room
+pub mod Shows
 pub mod Steps

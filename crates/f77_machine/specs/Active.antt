@@ -20,6 +20,6 @@ active_of loop = record {
 abbrev pub actives_of : List ActiveLoop → List meaning.ActiveLoop
 actives_of loops = reverse (map active_of loops)
 
--- of the innermost one an iteration is left, and its numbers are in range; its variable is a unit of storage of so many
+-- of the innermost one an iteration is left, and its numbers are in range; its variable lies in storage of `total` addresses
 abbrev pub InnermostNumbersFit : (total : ℕ) → List ActiveLoop → Type 0
 InnermostNumbersFit total loops = (outer : List ActiveLoop) (innermost : ActiveLoop) → loops ≡ outer ++ innermost ∷ [] → NumbersFit total (active_of innermost)

@@ -1,4 +1,4 @@
--- What a DO statement comes to, as the definitions have it.
+-- What a DO statement evaluates to, as the definitions have it.
 use Rattle.std.specs.Prelude.{ℕ, ◌<◌}
 use Rattle.f77_meaning.specs.Demand.{Demand, gives, wants, fails}
 use Rattle.f77_meaning.specs.Do as meaning
@@ -15,11 +15,11 @@ as_begun b = record { variable = b.variable; first = b.first; increment = b.incr
 
 abbrev pub begun_demand : Evaluated Begun → Demand meaning.Begun
 begun_demand (Gives b rest) = gives (as_begun b) rest.now
-begun_demand (Wants address) = wants address
+begun_demand (Wants address by) = wants address by
 begun_demand (Fails fault) = fails fault
 
--- the variable's unit lies in storage of so many units
+-- the variable lies in storage of `total` addresses
 abbrev pub GivesVariableBelow : (total : ℕ) → Evaluated Begun → Type 0
 GivesVariableBelow total (Gives b rest) = b.variable < total
-GivesVariableBelow total (Wants address) = Unit {0}
+GivesVariableBelow total (Wants address by) = Unit {0}
 GivesVariableBelow total (Fails fault) = Unit {0}

@@ -1,11 +1,10 @@
 pub mod Active
+pub mod Setting
 pub mod Evaluated
 pub mod Begun
+pub mod Assign
 pub mod Chain
-pub mod Input
-pub mod Line
 pub mod Loops
-pub mod Number
 pub mod Print
 pub mod Process
 pub mod Reads

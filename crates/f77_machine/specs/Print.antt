@@ -1,17 +1,58 @@
--- What the items of PRINT answer.
-use Rattle.std.specs.Prelude.{ℕ, ◌+◌, ◌≤◌, List, length}
-use Rattle.f77_meaning.specs.Demand.{Demand, gives, wants, fails}
-use Rattle.f77_meaning.specs.Print.{line_limit}
-use Rattle.f77_machine.specs.declared.evaluated.Evaluated.{Evaluated}
-use Rattle.f77_machine.specs.declared.evaluated.Evaluated.TheVariants.{Gives, Wants, Fails}
+-- What a PRINT comes to.
+use Rattle.std.specs.Prelude.{◌≡◌, ℕ, ◌+◌, ◌<◌, ◌≤◌, ◌^◌, List, [], length, take, Option, None, Some, Result, Ok, Err}
+use Rattle.f77_ast.specs.declared.fault.Fault.{Fault}
+use Rattle.f77_meaning.specs.Print.{asks, whole, stops, or_blank}
+use Rattle.f77_meaning.specs.Print as meaning
+use Rattle.f77_machine.specs.declared.print.Printing.{Printing}
+use Rattle.f77_machine.specs.declared.print.Printed.{Printed}
+use Rattle.f77_machine.specs.declared.print.Printed.TheVariants.{GoesOn, Asks, Stops}
 
--- an answer as the line that the items come to
-abbrev pub as_line : Evaluated (Unit {0}) → (line : List ℕ) → Demand (List ℕ)
-as_line (Gives done rest) line = gives line rest.now
-as_line (Wants address) line = wants address
-as_line (Fails fault) line = fails fault
+-- how far a PRINT is, with this line
+abbrev pub as_printing : Printing → (line : List ℕ) → meaning.Printing
+as_printing at line = record { items = at.items; cells = at.cells; answers = at.answers.now; line = line }
 
--- a line that took an item is longer by two bytes or more, and no longer than a line may be
-abbrev pub HasGrown : Evaluated (Unit {0}) → (old new : List ℕ) → Type 0
-HasGrown (Gives done rest) old new = (length old + 2 ≤ length new) × (length new ≤ line_limit)
-HasGrown _ old new = Unit {0}
+-- where a PRINT comes to with this line, where it goes on so
+abbrev pub go_on : Printed → (line : List ℕ) → (meaning.Printing → meaning.Printed) → meaning.Printed
+go_on (GoesOn at) line go = go (as_printing at line)
+go_on (Asks address by at) line go = asks address by (as_printing at line)
+go_on (Stops fault) line go = stops fault
+
+-- where a PRINT without further items comes to: its line is whole
+abbrev pub as_printed : Printed → (line : List ℕ) → meaning.Printed
+as_printed (GoesOn at) line = whole (or_blank line)
+as_printed (Asks address by at) line = asks address by (as_printing at line)
+as_printed (Stops fault) line = stops fault
+
+-- the line, where a text was added to it
+abbrev pub line_by : Result (Unit {0}) Fault → (line : List ℕ) → Option (List ℕ)
+line_by (Ok added) line = Some line
+line_by (Err fault) line = None
+
+-- a list begins with another
+pub record BeginsWith {X : Type 0} (whole part : List X) : Type 0 where
+  pub shorter : length part ≤ length whole
+  pub same : take (length part) whole ≡ part
+
+-- an address that is asked for lies in storage of `total` addresses; of the answers by then those that are kept are the first
+-- of those before, and fewer than are needed
+pub record IsAsked (total need : ℕ) (before after : Printing) (address : ℕ) : Type 0 where
+  pub within : address < total
+  pub room : length after.answers.now < need
+  pub cells : after.cells < 2 ^ 32
+  pub kept : BeginsWith before.answers.now after.answers.now
+
+abbrev pub AsksWithin : (total need : ℕ) → (before : Printing) → Printed → Type 0
+AsksWithin total need before (GoesOn after) = Unit {0}
+AsksWithin total need before (Asks address by after) = IsAsked total need before after address
+AsksWithin total need before (Stops fault) = Unit {0}
+
+-- with its next item done
+pub record IsNext (before after : Printing) : Type 0 where
+  pub items : after.items ≡ before.items + 1
+  pub cells : after.cells ≡ 0
+  pub answers : after.answers.now ≡ []
+
+abbrev pub Follows : (before : Printing) → Printed → Type 0
+Follows before (GoesOn after) = IsNext before after
+Follows before (Asks address by after) = Unit {0}
+Follows before (Stops fault) = Unit {0}

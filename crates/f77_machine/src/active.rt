@@ -1,6 +1,7 @@
 //! DO-loops that are active (ANSI X3.9-1978, section 11.10.2).
-ghost use Rattle.std.specs.Prelude.{◌≡◌, ◌+◌, ◌<◌, ◌≤◌, ◌^◌, IsTrue, suc};
-ghost use Rattle.f77_meaning.specs.Do.{active_from, has_64_bits, next_value, value_after};
+ghost use Rattle.std.specs.Prelude.{◌≡◌, ◌+◌, ◌<◌, ◌≤◌, ◌^◌, ◌==◌, IsTrue};
+ghost use Rattle.std.specs.List.{list_any};
+ghost use Rattle.f77_meaning.specs.Do.{active_from, has_64_bits, next_value, turned, value_after};
 ghost use Rattle.f77_machine.specs.Active.{active_of};
 ghost use Rattle.f77_machine.specs.Begun.{as_begun};
 
@@ -63,11 +64,18 @@ impl ActiveLoop {
     /// The loop once one more iteration has ended.
     pub fn after_iteration(self) -> ActiveLoop
         requires { self.done < self.count }
-        ensures { active_of result ≡ record (active_of self) { done = suc self.done } }
+        ensures { active_of result ≡ turned (active_of self) }
     {
         ActiveLoop {
             done: self.done + 1,
             ..self
         }
     }
+}
+
+/// Whether an address is that of the variable of one of some loops.
+pub fn is_variable_of_any(loops: &[ActiveLoop], address: u32) -> bool
+    ensures { result ≡ list_any (λ loop. loop.variable == address) loops.now }
+{
+    loops.iter().any(|running| running.variable == address)
 }

@@ -1,12 +1,14 @@
 //! The DO statement: the values of its parameters (ANSI X3.9-1978, section 11.10.3).
-ghost use Rattle.std.specs.Prelude.{◌≡◌, ◌+◌, length};
-ghost use Rattle.f77_meaning.specs.Demand.{and_then, located};
-ghost use Rattle.f77_meaning.specs.Do.{begun_of, begun_with, increment_of};
-ghost use Rattle.f77_structure.specs.Storage.{IsStorage};
+ghost use Rattle.std.specs.Prelude.{◌≡◌, ◌+◌, IsTrue, length};
 ghost use Rattle.f77_ast.specs.Entity.{entity_in};
-ghost use Rattle.f77_machine.specs.Evaluated.{as_demand, Asks, GivesAddressBelow};
+ghost use Rattle.f77_structure.specs.HasMeaning.{control_has_meaning, expr_has_meaning, increment_has_meaning, is_integer_variable};
+ghost use Rattle.f77_structure.specs.Storage.{IsStorage};
+ghost use Rattle.f77_meaning.specs.Demand.{and_then, located, number_demand};
+ghost use Rattle.f77_meaning.specs.Do.{begun_of, begun_with, increment_of};
 ghost use Rattle.f77_machine.specs.Begun.{begun_demand, as_parameters, GivesVariableBelow};
+ghost use Rattle.f77_machine.specs.Evaluated.{as_demand, Asks};
 ghost use Rattle.f77_machine.specs.Reads.{reads_in, increment_reads, control_reads};
+ghost use Rattle.f77_machine.specs.Setting.{setting_in};
 
 use crate::count::{Parameters, iteration_count};
 use crate::demand::demand;
@@ -31,7 +33,7 @@ pub struct Begun {
     pub count: u64,
 }
 
-/// What a DO statement evaluates to: its parameters are read from the left, and then its variable's unit is the one to
+/// What a DO statement evaluates to: its parameters are read from the left, and then its variable is the one to
 /// write. An incrementation parameter of 0 is a fault, and so is a count, or a value at the end of the loop, that
 /// isn't from -2^63 to 2^63 - 1.
 pub fn begin<'a>(
@@ -41,7 +43,8 @@ pub fn begin<'a>(
     answers: &'a [i64],
 ) -> Evaluated<'a, Begun>
     requires storage { IsStorage layout.now }
-    ensures value { begun_demand result ≡ begun_of layout.now unit control.now answers.now }
+    requires meaning { IsTrue (control_has_meaning layout.now unit control.now) }
+    ensures value { begun_demand result ≡ begun_of (setting_in layout.now unit) control.now answers.now }
     ensures asks { Asks (length layout.now.first) (control_reads control.now) (length answers.now) result }
     ensures lies { GivesVariableBelow (length layout.now.first) result }
 {
@@ -61,13 +64,13 @@ pub fn begin<'a>(
                     };
                     begin_by(layout, unit, &control.variable, parameters, left)
                 }
-                Evaluated::Wants(address) => Evaluated::Wants(address),
+                Evaluated::Wants(address, by) => Evaluated::Wants(address, by),
                 Evaluated::Fails(fault) => Evaluated::Fails(fault),
             },
-            Evaluated::Wants(address) => Evaluated::Wants(address),
+            Evaluated::Wants(address, by) => Evaluated::Wants(address, by),
             Evaluated::Fails(fault) => Evaluated::Fails(fault),
         },
-        Evaluated::Wants(address) => Evaluated::Wants(address),
+        Evaluated::Wants(address, by) => Evaluated::Wants(address, by),
         Evaluated::Fails(fault) => Evaluated::Fails(fault),
     }
 }
@@ -80,7 +83,8 @@ fn increment<'a>(
     answers: &'a [i64],
 ) -> Evaluated<'a, i64>
     requires storage { IsStorage layout.now }
-    ensures value { as_demand result ≡ increment_of layout.now unit increment.now answers.now }
+    requires meaning { IsTrue (increment_has_meaning layout.now unit increment.now) }
+    ensures value { as_demand result ≡ increment_of (setting_in layout.now unit) increment.now answers.now }
     ensures asks { Asks (length layout.now.first) (increment_reads increment.now) (length answers.now) result }
 {
     match increment {
@@ -98,16 +102,17 @@ fn begin_by<'a>(
     rest: &'a [i64],
 ) -> Evaluated<'a, Begun>
     requires storage { IsStorage layout.now }
+    requires meaning { IsTrue (is_integer_variable (entity_in layout.now.entities unit name.now)) }
     ensures value { begun_demand result
-        ≡ and_then (located (entity_in layout.now.entities unit name.now) None rest.now) (λ variable more. begun_with variable (as_parameters parameters) more) }
+        ≡ and_then (located (entity_in layout.now.entities unit name.now) None rest.now) (λ variable more. begun_with variable.address (as_parameters parameters) more) }
     ensures asks { Asks (length layout.now.first) 0 (length rest.now) result }
     ensures lies { GivesVariableBelow (length layout.now.first) result }
 {
     match entity(layout, unit, name) {
         None => Evaluated::Fails(Fault::Subscript),
         Some(entity) => match variable(entity, rest) {
-            Evaluated::Gives(address, more) => begin_at(address, parameters, more),
-            Evaluated::Wants(address) => Evaluated::Wants(address),
+            Evaluated::Gives(place, more) => begin_at(place.address, parameters, more),
+            Evaluated::Wants(address, by) => Evaluated::Wants(address, by),
             Evaluated::Fails(fault) => Evaluated::Fails(fault),
         },
     }

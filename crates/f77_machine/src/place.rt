@@ -1,17 +1,29 @@
-//! Where entities and their elements lie in storage (ANSI X3.9-1978, sections 5.1.1 and 5.4).
-ghost use Rattle.std.specs.Prelude.{◌≡◌, ◌+◌, ◌<◌, ◌≤◌, ◌^◌, IfSome, length};
+//! What references stand for: variables and elements of arrays (ANSI X3.9-1978, sections 5.1.1 and 5.4).
+ghost use Rattle.std.specs.Prelude.{◌≡◌, ◌+◌, ◌<◌, ◌≤◌, ◌^◌, IfSome, IsTrue, Some, length};
 ghost use Rattle.std.specs.Option.{option_copied};
 ghost use Rattle.f77_ast.specs.Entity.{entity_in};
-ghost use Rattle.f77_meaning.specs.Demand.{element_address, offset_of, variable_address};
-ghost use Rattle.f77_structure.specs.Storage.{IsStorage, LiesIn, start_of, storage_units_of, vector_extent, upper_of};
-ghost use Rattle.f77_machine.specs.Evaluated.{as_demand, Asks, GivesAddressBelow};
+ghost use Rattle.f77_structure.specs.HasMeaning.{is_integer_variable, is_integer_vector};
+ghost use Rattle.f77_structure.specs.Storage.{IsStorage, LiesIn, address_of_variable, address_of_element, start_of, storage_units_of};
+ghost use Rattle.f77_meaning.specs.Demand.{place_by, place_of};
+ghost use Rattle.f77_machine.specs.Evaluated.{as_located, located_demand, Asks, GivesIntegerBelow};
 
 use crate::evaluated::Evaluated;
-use f77_ast::expr::Expr;
+use f77_ast::expr::Kind;
 use f77_ast::fault::Fault;
 use f77_ast::name::Name;
-use f77_ast::program::{Entity, Layout, Place};
-use f77_ast::specification::Bound;
+use f77_ast::program::{Entity, Layout};
+use f77_structure::storage::{address_of_element, address_of_variable};
+
+/// A variable, or an element of an array.
+#[derive(Clone, Copy, Debug)]
+pub struct Located {
+    /// Its type.
+    pub kind: Kind,
+    /// Its first address.
+    pub address: u32,
+    /// The length of a character.
+    pub len: u32,
+}
 
 /// The entity of a name in a unit.
 pub fn entity<'l>(layout: &'l Layout, unit: u32, name: &Name) -> Option<&'l Entity>
@@ -23,82 +35,40 @@ pub fn entity<'l>(layout: &'l Layout, unit: u32, name: &Name) -> Option<&'l Enti
     Some(found)
 }
 
-/// The first address of an entity that is stored.
-pub fn start(entity: &Entity) -> u32
-    ensures { result ≡ start_of entity.now }
+/// The place of an entity at an address.
+fn place_of(entity: &Entity, address: u32) -> Located
+    ensures { as_located result ≡ place_of entity.now address }
 {
-    match &entity.place {
-        Place::Stored(address) => *address,
-        Place::Dummy(_) => 0,
-        Place::Constant(_) => 0,
+    Located {
+        kind: entity.kind,
+        address,
+        len: entity.len,
     }
 }
 
-/// The number of storage units of an entity: one of a variable, and one for each element of an array.
-pub fn storage_units(entity: &Entity) -> u64
-    ensures { result ≡ storage_units_of entity.now }
-{
-    match entity.bounds.as_slice() {
-        [] => 1,
-        [bound] => upper(bound),
-        [_, _, ..] => 0,
-    }
-}
-
-/// The number of elements of an array of one dimension: none for what is no such array.
-fn extent(entity: &Entity) -> Option<u64>
-    ensures { result ≡ vector_extent entity.now.bounds }
-{
-    match entity.bounds.as_slice() {
-        [bound] => Some(upper(bound)),
-        _ => None,
-    }
-}
-
-/// The upper bound of a dimension: digits. Other bounds have no meaning yet.
-fn upper(bound: &Bound) -> u64
-    ensures { result ≡ upper_of bound.now.high }
-{
-    match &bound.high {
-        Some(Expr::Int(value)) if *value >= 0 => *value as u64,
-        _ => 0,
-    }
-}
-
-/// The place of an element by its subscript, from 0: none for a subscript below 1.
-fn offset(subscript: i64) -> Option<u64>
-    ensures { result ≡ offset_of subscript }
-{
-    if subscript < 1 {
-        return None;
-    }
-    Some((subscript - 1) as u64)
-}
-
-/// The address of a variable; what has a dimension is none.
-pub fn variable<'a>(entity: &Entity, rest: &'a [i64]) -> Evaluated<'a, u32>
-    ensures value { as_demand result ≡ variable_address entity.now rest.now }
+/// A variable; what has a dimension is none.
+pub fn variable<'a>(entity: &Entity, rest: &'a [i64]) -> Evaluated<'a, Located>
+    requires meaning { IsTrue (is_integer_variable (Some entity.now)) }
+    ensures value { located_demand result ≡ place_by entity.now (address_of_variable entity.now) rest.now }
     ensures asks { Asks 0 0 (length rest.now) result }
-    ensures lies { GivesAddressBelow (start_of entity.now + storage_units_of entity.now) result }
+    ensures lies { GivesIntegerBelow (start_of entity.now + storage_units_of entity.now) result }
 {
-    if entity.bounds.is_empty() {
-        Evaluated::Gives(start(entity), rest)
-    } else {
-        Evaluated::Fails(Fault::Subscript)
+    match address_of_variable(entity) {
+        Some(address) => Evaluated::Gives(place_of(entity, address), rest),
+        None => Evaluated::Fails(Fault::Subscript),
     }
 }
 
-/// The address of the element of a subscript; one outside the dimension is a fault.
-pub fn element<'a>(entity: &Entity, subscript: i64, rest: &'a [i64]) -> Evaluated<'a, u32>
+/// The element of a subscript; one outside the bounds is a fault.
+pub fn element<'a>(entity: &Entity, subscript: i64, rest: &'a [i64]) -> Evaluated<'a, Located>
+    requires meaning { IsTrue (is_integer_vector (Some entity.now)) }
     requires within { start_of entity.now + storage_units_of entity.now ≤ 2 ^ 32 }
-    ensures value { as_demand result ≡ element_address entity.now subscript rest.now }
+    ensures value { located_demand result ≡ place_by entity.now (address_of_element entity.now subscript) rest.now }
     ensures asks { Asks 0 0 (length rest.now) result }
-    ensures lies { GivesAddressBelow (start_of entity.now + storage_units_of entity.now) result }
+    ensures lies { GivesIntegerBelow (start_of entity.now + storage_units_of entity.now) result }
 {
-    match (extent(entity), offset(subscript)) {
-        (Some(extent), Some(place)) if place < extent => {
-            Evaluated::Gives(start(entity) + place as u32, rest)
-        }
-        _ => Evaluated::Fails(Fault::Subscript),
+    match address_of_element(entity, subscript) {
+        Some(address) => Evaluated::Gives(place_of(entity, address), rest),
+        None => Evaluated::Fails(Fault::Subscript),
     }
 }

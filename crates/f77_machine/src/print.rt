@@ -1,162 +1,204 @@
 //! The items of PRINT (ANSI X3.9-1978, section 12.8).
-ghost use Rattle.std.specs.Prelude.{◌≡◌, ◌+◌, ◌≤◌, ◌^◌, min, [], IsTrue, length};
+ghost use Rattle.std.specs.Prelude.{◌≡◌, ◌+◌, ◌<◌, ◌≤◌, ◌^◌, ℕ, List, [], IsTrue, IfErr, Some, length};
+ghost use Rattle.std.specs.List.{list_all};
 ghost use Rattle.hyb_base.specs.Decimal.{decimal_of};
-ghost use Rattle.f77_meaning.specs.Demand.{demand_of, unit_value};
-ghost use Rattle.f77_meaning.specs.Print.{after_item, after_items, line_of_items, or_blank, after_units, with_item, with_value};
-ghost use Rattle.f77_structure.specs.Storage.{IsStorage};
-ghost use Rattle.f77_machine.specs.Evaluated.{Asks};
-ghost use Rattle.f77_machine.specs.Line.{text_of};
-ghost use Rattle.f77_machine.specs.Print.{as_line, HasGrown};
-ghost use Rattle.f77_machine.specs.Reads.{item_reads, items_reads, most_elements, reads_in};
+ghost use Rattle.f77_ast.specs.declared.fault.Fault.TheVariants.{LineLimit};
+ghost use Rattle.f77_structure.specs.HasMeaning.{expr_has_meaning, is_integer_vector, item_has_meaning};
+ghost use Rattle.f77_structure.specs.Storage.{IsStorage, start_of, storage_units_of};
+ghost use Rattle.f77_meaning.specs.Demand.{demand_of};
+ghost use Rattle.f77_meaning.specs.Print.{after_elements, after_item, after_items, after_value, ask_element, next_cell, next_item, with_text};
+ghost use Rattle.f77_meaning.specs.Print as meaning;
+ghost use Rattle.f77_io.specs.Line.{text_of};
+ghost use Rattle.f77_machine.specs.Print.{as_printing, as_printed, go_on, line_by, AsksWithin, BeginsWith, Follows, IsNext};
+ghost use Rattle.f77_machine.specs.Reads.{item_reads, most_reads, reads_in};
+ghost use Rattle.f77_machine.specs.Setting.{setting_in};
 
-use crate::array::array_named;
-use crate::demand::{demand, unit_value};
+use crate::array::{array_named, storage_units};
+use crate::demand::demand;
 use crate::evaluated::Evaluated;
-use crate::line::Line;
-use crate::place::{start, storage_units};
 use f77_ast::expr::Expr;
-use f77_ast::program::Layout;
+use f77_ast::fault::Fault;
+use f77_ast::program::{Entity, Layout};
 use f77_ast::stmt::Item;
+use f77_io::line::Line;
+use f77_structure::storage::start;
+use hyb_base::ops::RedOp;
 
-/// Adds one item to the line: an array's elements, or the value of another expression. An implied DO has no meaning
-/// yet.
+/// How far a PRINT is.
+#[derive(Clone, Copy, Debug)]
+pub struct Printing<'a> {
+    /// How many of its items are done.
+    pub items: usize,
+    /// How many elements of the next item are done, where that is an array.
+    pub cells: u64,
+    /// The answers to the reads of that item.
+    pub answers: &'a [i64],
+}
+
+/// Where a PRINT comes to.
+#[derive(Clone, Copy, Debug)]
+pub enum Printed<'a> {
+    /// It goes on from here; after its last item its line is whole.
+    GoesOn(Printing<'a>),
+    /// It reads an address, with the operator of an accumulation where it is the last read of one.
+    Asks(u32, Option<RedOp>, Printing<'a>),
+    /// It meets a fault.
+    Stops(Fault),
+}
+
+impl<'a> Printing<'a> {
+    /// With its next item done: what the item read is forgotten.
+    fn next_item(self) -> Printing<'a>
+        requires { self.items + 1 < 2 ^ 64 }
+        ensures next { (line old : List ℕ) → as_printing result line ≡ next_item (as_printing self.entry old) line }
+        ensures is_next { IsNext self.entry result }
+    {
+        Printing {
+            items: self.items + 1,
+            cells: 0,
+            answers: &self.answers[..0],
+        }
+    }
+
+    /// With the next element of its array done.
+    fn next_cell(self) -> Printing<'a>
+        requires { self.cells + 1 < 2 ^ 64 }
+        ensures next { (line old : List ℕ) → as_printing result line ≡ next_cell (as_printing self.entry old) line }
+        ensures answers { result.answers.now ≡ [] }
+        ensures items { result.items ≡ self.entry.items }
+    {
+        Printing {
+            items: self.items,
+            cells: self.cells + 1,
+            answers: &self.answers[..0],
+        }
+    }
+}
+
+/// Adds a blank and a number to the line; `LineLimit`, and a line as before, where it would pass its limit.
+fn push(number: i64, line: &mut Line) -> Result<(), Fault>
+    ensures added { line_by result (text_of line.new) ≡ with_text (text_of line.old) (decimal_of number) }
+    ensures fault { IfErr result (λ fault. fault ≡ LineLimit) }
+    ensures begins { BeginsWith (text_of line.new) (text_of line.old) }
+{
+    line.push_int(number)
+}
+
+/// Adds the value of an expression, once it is known.
+fn print_value<'a>(
+    layout: &Layout,
+    unit: u32,
+    expr: &Expr,
+    at: Printing<'a>,
+    line: &mut Line,
+) -> Printed<'a>
+    requires storage { IsStorage layout.now }
+    requires meaning { IsTrue (expr_has_meaning layout.now unit expr.now) }
+    requires few { at.items + 1 < 2 ^ 64 }
+    ensures value { (go : meaning.Printing → meaning.Printed) → go_on result (text_of line.new) go
+        ≡ after_value (demand_of (setting_in layout.now unit) expr.now at.entry.answers.now) (as_printing at.entry (text_of line.old)) go }
+    ensures asks { AsksWithin (length layout.now.first) (reads_in expr.now) at.entry result }
+    ensures follows { Follows at.entry result }
+    ensures begins { BeginsWith (text_of line.new) (text_of line.old) }
+{
+    match demand(layout, unit, expr, at.answers) {
+        Evaluated::Gives(number, _rest) => match push(number, line) {
+            Ok(()) => Printed::GoesOn(at.next_item()),
+            Err(fault) => Printed::Stops(fault),
+        },
+        Evaluated::Wants(address, by) => Printed::Asks(address, by, at),
+        Evaluated::Fails(fault) => Printed::Stops(fault),
+    }
+}
+
+/// Reads the next element of an array; where there is none, the item is done.
+fn ask_element<'a>(array: &Entity, at: Printing<'a>) -> Printed<'a>
+    requires within { start_of array.now + storage_units_of array.now ≤ 2 ^ 32 }
+    requires few { at.items + 1 < 2 ^ 64 }
+    requires unread { at.answers.now ≡ [] }
+    ensures value { (go : meaning.Printing → meaning.Printed) (line : List ℕ) → go_on result line go ≡ ask_element array.now (as_printing at.entry line) go }
+    ensures asks { AsksWithin (start_of array.now + storage_units_of array.now) 1 at.entry result }
+    ensures follows { Follows at.entry result }
+{
+    if at.cells < storage_units(array) {
+        Printed::Asks(start(array) + at.cells as u32, None, at)
+    } else {
+        Printed::GoesOn(at.next_item())
+    }
+}
+
+/// Adds the element of an array that was read, where one was, and asks for the next one: its elements are items in the
+/// order of their addresses (section 5.2.5).
+fn print_element<'a>(array: &Entity, at: Printing<'a>, line: &mut Line) -> Printed<'a>
+    requires within { start_of array.now + storage_units_of array.now ≤ 2 ^ 32 }
+    requires meaning { IsTrue (is_integer_vector (Some array.now)) }
+    requires few { at.items + 1 < 2 ^ 64 }
+    requires cells { at.cells + 1 < 2 ^ 64 }
+    ensures value { (go : meaning.Printing → meaning.Printed) → go_on result (text_of line.new) go
+        ≡ after_elements array.now at.entry.answers.now (as_printing at.entry (text_of line.old)) go }
+    ensures asks { AsksWithin (start_of array.now + storage_units_of array.now) 1 at.entry result }
+    ensures follows { Follows at.entry result }
+    ensures begins { BeginsWith (text_of line.new) (text_of line.old) }
+{
+    match at.answers.split_first() {
+        None => ask_element(array, at),
+        Some((number, _rest)) => match push(*number, line) {
+            Ok(()) => ask_element(array, at.next_cell()),
+            Err(fault) => Printed::Stops(fault),
+        },
+    }
+}
+
+/// Goes on with one item: an array, or another expression.
 fn print_item<'a>(
     layout: &Layout,
     unit: u32,
     item: &Item,
+    at: Printing<'a>,
     line: &mut Line,
-    answers: &'a [i64],
-) -> Evaluated<'a, ()>
+) -> Printed<'a>
     requires storage { IsStorage layout.now }
-    ensures value { as_line result (text_of line.new) ≡ after_item layout.now unit item.now (text_of line.old) answers.now }
-    ensures asks { Asks (length layout.now.first) (item_reads layout.now unit item.now) (length answers.now) result }
+    requires meaning { IsTrue (item_has_meaning layout.now unit item.now) }
+    requires few { at.items + 1 < 2 ^ 64 }
+    requires cells { at.cells + 1 < 2 ^ 64 }
+    ensures value { (go : meaning.Printing → meaning.Printed) → go_on result (text_of line.new) go
+        ≡ after_item (setting_in layout.now unit) item.now (as_printing at.entry (text_of line.old)) go }
+    ensures asks { AsksWithin (length layout.now.first) (item_reads layout.now unit item.now) at.entry result }
+    ensures follows { Follows at.entry result }
+    ensures begins { BeginsWith (text_of line.new) (text_of line.old) }
 {
     match item {
         Item::Plain(expr) => match array_named(layout, unit, expr) {
-            Some(array) => print_units(start(array), storage_units(array), line, answers),
-            None => print_expr(layout, unit, expr, line, answers),
+            Some(array) => print_element(array, at, line),
+            None => print_value(layout, unit, expr, at, line),
         },
-        Item::Implied(_, _) => Evaluated::Gives((), answers),
+        Item::Implied(_, _) => unreachable!(),
     }
 }
 
-/// Adds `count` cells from an address on, each of which is read before it goes into the line.
-fn print_units<'a>(
-    address: u32,
-    count: u64,
-    line: &mut Line,
-    answers: &'a [i64],
-) -> Evaluated<'a, ()>
-    requires within { address + count ≤ 2 ^ 32 }
-    ensures value { as_line result (text_of line.new) ≡ after_units address count (text_of line.old) answers.now }
-    ensures asks { Asks (address + count) (min count most_elements) (length answers.now) result }
-{
-    let mut left = answers;
-    for place in 0..count {
-        match print_unit(address + place as u32, line, left) {
-            Evaluated::Gives((), rest) => left = rest,
-            Evaluated::Wants(address) => return Evaluated::Wants(address),
-            Evaluated::Fails(fault) => return Evaluated::Fails(fault),
-        }
-    }
-    Evaluated::Gives((), left)
-}
-
-/// Adds the unit of an address, which is read.
-fn print_unit<'a>(address: u32, line: &mut Line, answers: &'a [i64]) -> Evaluated<'a, ()>
-    ensures value { as_line result (text_of line.new) ≡ with_value (text_of line.old) (unit_value address answers.now) }
-    ensures grown { HasGrown result (text_of line.old) (text_of line.new) }
-    ensures asks { Asks (address + 1) 1 (length answers.now) result }
-{
-    match unit_value(address, answers) {
-        Evaluated::Gives(value, rest) => print_value(value, line, rest),
-        Evaluated::Wants(address) => Evaluated::Wants(address),
-        Evaluated::Fails(fault) => Evaluated::Fails(fault),
-    }
-}
-
-/// Adds the value of an expression.
-fn print_expr<'a>(
-    layout: &Layout,
-    unit: u32,
-    expr: &Expr,
-    line: &mut Line,
-    answers: &'a [i64],
-) -> Evaluated<'a, ()>
-    requires storage { IsStorage layout.now }
-    ensures value { as_line result (text_of line.new) ≡ with_value (text_of line.old) (demand_of layout.now unit expr.now answers.now) }
-    ensures asks { Asks (length layout.now.first) (reads_in expr.now) (length answers.now) result }
-{
-    match demand(layout, unit, expr, answers) {
-        Evaluated::Gives(value, rest) => print_value(value, line, rest),
-        Evaluated::Wants(address) => Evaluated::Wants(address),
-        Evaluated::Fails(fault) => Evaluated::Fails(fault),
-    }
-}
-
-/// Adds a value to the line.
-fn print_value<'a>(value: i64, line: &mut Line, rest: &'a [i64]) -> Evaluated<'a, ()>
-    ensures value { as_line result (text_of line.new) ≡ with_item (text_of line.old) (decimal_of value) rest.now }
-    ensures grown { HasGrown result (text_of line.old) (text_of line.new) }
-    ensures asks { Asks 0 0 (length rest.now) result }
-{
-    match line.push_int(value) {
-        Ok(()) => Evaluated::Gives((), rest),
-        Err(fault) => Evaluated::Fails(fault),
-    }
-}
-
-/// Adds items to the line, from left to right.
-fn print_items<'a>(
+/// Goes on with items, from left to right.
+pub fn print_items<'a>(
     layout: &Layout,
     unit: u32,
     items: &[Item],
+    from: Printing<'a>,
     line: &mut Line,
-    answers: &'a [i64],
-) -> Evaluated<'a, ()>
+) -> Printed<'a>
     requires storage { IsStorage layout.now }
-    ensures value { as_line result (text_of line.new) ≡ after_items layout.now unit items.now (text_of line.old) answers.now }
-    ensures asks { Asks (length layout.now.first) (items_reads layout.now unit items.now) (length answers.now) result }
+    requires meaning { IsTrue (list_all (item_has_meaning layout.now unit) items.now) }
+    requires few { from.items + length items.now < 2 ^ 64 }
+    requires cells { from.cells + 1 < 2 ^ 64 }
+    ensures value { as_printed result (text_of line.new) ≡ after_items (setting_in layout.now unit) items.now (as_printing from.entry (text_of line.old)) }
+    ensures asks { AsksWithin (length layout.now.first) (most_reads layout.now unit items.now) from.entry result }
+    ensures begins { BeginsWith (text_of line.new) (text_of line.old) }
 {
-    let mut left = answers;
+    let mut at = from;
     for item in items {
-        match print_item(layout, unit, item, line, left) {
-            Evaluated::Gives((), rest) => left = rest,
-            Evaluated::Wants(address) => return Evaluated::Wants(address),
-            Evaluated::Fails(fault) => return Evaluated::Fails(fault),
+        match print_item(layout, unit, item, at, line) {
+            Printed::GoesOn(next) => at = next,
+            Printed::Asks(address, by, here) => return Printed::Asks(address, by, here),
+            Printed::Stops(fault) => return Printed::Stops(fault),
         }
     }
-    Evaluated::Gives((), left)
-}
-
-/// The line of a PRINT: one blank and the text for each item, and one blank where there is no item.
-pub fn print_line<'a>(
-    layout: &Layout,
-    unit: u32,
-    items: &[Item],
-    line: &mut Line,
-    answers: &'a [i64],
-) -> Evaluated<'a, ()>
-    requires storage { IsStorage layout.now }
-    requires line { text_of line.old ≡ [] }
-    ensures value { as_line result (text_of line.new) ≡ line_of_items layout.now unit items.now answers.now }
-    ensures asks { Asks (length layout.now.first) (items_reads layout.now unit items.now) (length answers.now) result }
-{
-    match print_items(layout, unit, items, line, answers) {
-        Evaluated::Gives((), rest) => {
-            fill(line);
-            Evaluated::Gives((), rest)
-        }
-        Evaluated::Wants(address) => Evaluated::Wants(address),
-        Evaluated::Fails(fault) => Evaluated::Fails(fault),
-    }
-}
-
-/// Makes a line without items one blank.
-fn fill(line: &mut Line)
-    ensures { text_of line.new ≡ or_blank (text_of line.old) }
-{
-    if line.text().is_empty() {
-        line.set_blank();
-    }
+    Printed::GoesOn(at)
 }

@@ -1,105 +1,128 @@
 //! Processes: one step at a time through the statements of a program.
-ghost use Rattle.std.specs.Prelude.{◌≡◌, ◌+◌, ◌^◌, ◌<◌, ◌≤◌, OnSome, slice_get, vec_capacity};
-ghost use Rattle.std.specs.Option.{option_and_then, option_copied};
-ghost use Rattle.f77_structure.specs.Statements.{is_executable};
-ghost use Rattle.f77_structure.specs.Units.{statement_at, source_line, first_executable};
-ghost use Rattle.f77_meaning.specs.Process.{entry_of};
+ghost use Rattle.std.specs.Prelude.{◌≡◌, ◌+◌, ◌^◌, ◌<◌, ◌≤◌, drop, length, vec_capacity};
+ghost use Rattle.f77_io.specs.Line.{text_of};
+ghost use Rattle.f77_meaning.specs.Print.{or_blank};
 
 mod control;
 
-use crate::active::ActiveLoop;
-use crate::assign::assigned;
-use crate::begin::begin;
+use crate::active::{ActiveLoop, is_variable_of_any};
+use crate::assign::{Written, assigned};
+use crate::begin::{Begun, begin};
 use crate::evaluated::Evaluated;
-use crate::input::Input;
-use crate::line::Line;
 use crate::loops::loop_of_do;
-use crate::print::print_line;
+use crate::print::{Printed, Printing, print_items};
 use crate::reads::room_for;
 use f77_ast::expr::{Expr, Ref};
-use f77_ast::program::{Listed, Listing, Program, Unit};
+use f77_ast::fault::Fault;
+use f77_ast::program::{Loop, Program};
 use f77_ast::step::Stepped;
 use f77_ast::stmt::{Item, LoopControl, Stmt};
+use f77_io::input::Input;
+use f77_io::line::Line;
+use f77_structure::units::{first_executable, main_unit, source_line, statement_at};
 use hyb_base::cells::Cells;
 use hyb_base::no_memory::NoMemory;
 use sqlite_items::Items;
 use std::alloc::Global;
 
-/// A process that runs a program: the statement at which it is, the values that this statement has read, and the
-/// active DO-loops, the outermost one first. Where it increments, that statement is done and ends the range of the
-/// innermost active loop, whose incrementation processing comes next.
+/// What of its statement a process is at.
+#[derive(Clone, Copy, Debug, PartialEq, Eq)]
+pub enum Stage {
+    /// The statement itself.
+    Statement,
+    /// The incrementation processing of the innermost active loop: the statement ends its range, and is done.
+    Increment,
+}
+
+/// A process that runs a program: the statement at which it is, how far that is done, the answers to the reads of the
+/// item or statement at which it is, and the active DO-loops, the outermost one first.
 ///
-/// The room for values and loops is reserved when the process is made, so a step takes no memory.
+/// The room for answers and loops is reserved when the process is made, so a step takes no memory.
 #[derive(Drop)]
 pub struct Process {
     /// Its unit, counted from 0.
     unit: u32,
     /// The place of its statement in the unit, from 0.
     at: usize,
+    /// What of the statement it is at.
+    stage: Stage,
     /// The initial line of that statement.
     line: u32,
-    /// The values that the statement has read by now.
+    /// How many items of the statement are done.
+    items: usize,
+    /// How many elements of the next item are done, where that is an array.
+    cells: u32,
+    /// The answers to the reads of the item or statement at which it is.
     answers: Vec<i64>,
-    /// How many values there is room for.
+    /// How many answers there is room for.
     room: usize,
     /// The active DO-loops, the outermost one first.
     active: Vec<ActiveLoop>,
     /// How many active loops there is room for.
     depth: usize,
-    /// Whether the incrementation processing of the innermost active loop comes next.
-    increments: bool,
     ghost reserved: { room ≤ vec_capacity answers },
     ghost nested: { depth ≤ vec_capacity active },
 }
 
 impl Process {
-    ghost use Rattle.std.specs.Prelude.{◌≡◌, ◌+◌, ◌^◌, ◌<◌, ◌≤◌, ℕ, List, [], None, IfOk, IsTrue, false, length};
+    ghost use Rattle.std.specs.Prelude.{◌≡◌, ◌+◌, ◌^◌, ◌<◌, ◌≤◌, ◌∷◌, ℕ, List, [], take, Option, None, Some, IfOk, IsTrue, length};
+    ghost use Rattle.std.specs.List.{list_all};
+    ghost use Rattle.hyb_base.specs.declared.ops.RedOp.{RedOp};
+    ghost use Rattle.f77_ast.specs.Limits.{most_line_bytes};
     ghost use Rattle.f77_ast.specs.declared.program.Program.{Program};
-    ghost use Rattle.f77_meaning.specs.Assign.{written_of};
-    ghost use Rattle.f77_meaning.specs.Event.{reads};
-    ghost use Rattle.f77_meaning.specs.StepOutcome.{outcome_of_step, outcome_by, outcome_from};
-    ghost use Rattle.f77_meaning.specs.Print.{line_of_items};
-    ghost use Rattle.f77_meaning.specs.Do.{begun_of};
-    ghost use Rattle.f77_structure.specs.Units.{statement_number};
-    ghost use Rattle.f77_meaning.specs.Process.{first_process, listed_at};
-    ghost use Rattle.f77_meaning.specs.Process as meaning;
-    ghost use Rattle.f77_meaning.specs.Sound.{IsSound, Fits, IsLineOf, IsClearFor};
-    ghost use Rattle.f77_meaning.specs.Step.{after_begun, after_statement, past_statement, do_event, increment_event, past_increment, loop_of_do, print_event, write_event, statement_event};
-    ghost use Rattle.f77_structure.specs.Storage.{IsStorage};
+    ghost use Rattle.f77_ast.specs.declared.step.Control.TheVariants.{Began};
     ghost use Rattle.f77_ast.specs.declared.step.Stepped.TheVariants.{Inner};
+    ghost use Rattle.f77_structure.specs.HasMeaning.{expr_has_meaning, ref_has_meaning, item_has_meaning, control_has_meaning, statement_has_meaning};
+    ghost use Rattle.f77_structure.specs.Storage.{IsStorage};
+    ghost use Rattle.f77_structure.specs.Units.{source_line, statement_number};
+    ghost use Rattle.f77_io.specs.Input.{left_of};
+    ghost use Rattle.f77_io.specs.Line.{text_of};
+    ghost use Rattle.f77_meaning.specs.Assign.{written_of};
+    ghost use Rattle.f77_meaning.specs.Do.{active_from, begun_of};
+    ghost use Rattle.f77_meaning.specs.Print.{printed_of};
+    ghost use Rattle.f77_meaning.specs.Process.{first_process, is_blocked, listed_at, with_done};
+    ghost use Rattle.f77_meaning.specs.Process as meaning;
+    ghost use Rattle.f77_meaning.specs.Sound.{IsSound, Fits};
+    ghost use Rattle.f77_meaning.specs.Step.{reading, writing, begin_move, do_move, increment_move, loop_of_do, past_do, past_statement, print_move, statement_move, unless_blocked, write_move};
+    ghost use Rattle.f77_meaning.specs.StepOutcome.{line_left, outcome_by, outcome_from, outcome_of_step};
     ghost use Rattle.f77_machine.specs.Active.{actives_of, InnermostNumbersFit};
-    ghost use Rattle.f77_machine.specs.Input.{left_of};
-    ghost use Rattle.f77_machine.specs.Line.{text_of};
-    ghost use Rattle.f77_machine.specs.Process.{process_of, HasLoopRoom, IsProcessOf, KeepsPlace};
-    ghost use Rattle.f77_machine.specs.Reads.{statement_reads, control_reads, items_reads, subscript_reads, reads_in};
+    ghost use Rattle.f77_machine.specs.Assign.{as_written};
+    ghost use Rattle.f77_machine.specs.Begun.{as_begun};
+    ghost use Rattle.f77_machine.specs.Process.{frame_of, process_of, outcome_left, outcome_of_move, HasLoopRoom, IsProcessOf, KeepsPlace};
+    ghost use Rattle.f77_machine.specs.Reads.{statement_reads, control_reads, most_reads, subscript_reads, reads_in};
+    ghost use Rattle.f77_machine.specs.Setting.{setting_in};
 
     /// A process at the first executable statement of the main unit. It reserves what its steps need; `NoMemory` also
-    /// where the number of values that a statement may read passes 64 bits.
+    /// where the number of answers that a statement may need passes 64 bits.
     pub fn new(alloc: Global, program: &Program) -> Result<Process, NoMemory>
         requires sound { IsSound program.now }
-        ensures first { IfOk result (λ p. process_of p ≡ first_process program.now) }
-        ensures is_of { IfOk result (λ p. IsProcessOf program.now p) }
+        ensures first { IfOk result (λ p. process_of p [] ≡ first_process program.now) }
+        ensures is_of { IfOk result (λ p. IsProcessOf program.now p []) }
     {
         let Some(room) = room_for(program) else {
             return Err(NoMemory);
         };
-        let at = entry(program);
+        let unit = main_unit(program.units.as_slice());
+        let at = first_executable(program.units.as_slice()[unit].listing.as_slice());
+        let unit = unit as u32;
         Ok(Process {
-            unit: 0,
+            unit,
             at,
-            line: line_at(program, 0, at),
+            stage: Stage::Statement,
+            line: source_line(program, unit, at),
+            items: 0,
+            cells: 0,
             answers: Vec::with_capacity(alloc, room)?,
             room,
             active: Vec::with_capacity(alloc, program.loops.len())?,
             depth: program.loops.len(),
-            increments: false,
         })
     }
 
     /// An equal process.
     pub fn copy(&self, alloc: Global) -> Result<Process, NoMemory>
-        ensures same { IfOk result (λ copy. process_of copy ≡ process_of self.now) }
-        ensures is_of { IfOk result (λ copy. (program : Program) → IsProcessOf program self.now → IsProcessOf program copy) }
+        ensures same { IfOk result (λ copy. (text : List ℕ) → process_of copy text ≡ process_of self.now text) }
+        ensures is_of { IfOk result (λ copy. (program : Program) (text : List ℕ) → IsProcessOf program self.now text → IsProcessOf program copy text) }
     {
         let mut answers = Vec::with_capacity(alloc, self.room)?;
         answers.extend_from_slice(self.answers.as_slice())?;
@@ -108,27 +131,30 @@ impl Process {
         Ok(Process {
             unit: self.unit,
             at: self.at,
+            stage: self.stage,
             line: self.line,
+            items: self.items,
+            cells: self.cells,
             answers,
             room: self.room,
             active,
             depth: self.depth,
-            increments: self.increments,
         })
     }
 
     /// The initial line of its statement.
     pub fn line(&self) -> u32
-        ensures { (program : Program) → IsProcessOf program self.now → result ≡ source_line (listed_at program (process_of self.now)) }
+        ensures { (program : Program) (text : List ℕ) → IsProcessOf program self.now text → result ≡ source_line (listed_at program (process_of self.now text)) }
     {
         self.line
     }
 
-    /// One step: the statement's next event, and what it does to storage. It takes no memory.
+    /// One step: what the process does next, and what that does to storage, input and line. It takes no memory.
     ///
-    /// Every address may be got. Before a step of a PRINT the line is empty. After `Printed` it holds the printed
-    /// line, and the caller clears it before the next step; after any other answer it is as before. The marks of
-    /// accumulations and of DO-variables aren't answered yet: `by` and `control` are none.
+    /// Every address may be got. The line is a part of what the process stands for: a step of a PRINT adds to what it
+    /// holds by then, any other step leaves it. After `Printed` it holds the printed line, and the caller clears it
+    /// before the next step. After `Faulted` process and line are as before. The marks of accumulations and of
+    /// DO-variables aren't answered yet: `by` and `control` are none.
     pub fn step<C: Cells>(
         &mut self,
         program: &Program,
@@ -137,22 +163,23 @@ impl Process {
         line: &mut Line,
     ) -> Stepped
         requires sound { IsSound program.now }
-        requires is_of { IsProcessOf program.now self.old }
+        requires is_of { IsProcessOf program.now self.old (text_of line.old) }
         requires fits { Fits program.now.layout (C.values cells.old) }
         requires allowed { (address : ℕ) → IsTrue (C.may_get cells.old address) }
-        requires items { IsLineOf program.now (process_of self.old) (text_of line.old) }
 
-        ensures next { outcome_from result (process_of self.new) (C.values cells.new) (C.reads cells.new) (text_of line.new)
-            ≡ outcome_of_step program.now (process_of self.old) (C.values cells.old) (C.reads cells.old) (text_of line.old) }
-        ensures is_of { IsProcessOf program.now self.new }
+        ensures next { outcome_from result (process_of self.new (line_left result (text_of line.new))) (C.values cells.new) (C.reads cells.new) (left_of input.new) (text_of line.new)
+            ≡ outcome_of_step program.now (process_of self.old (text_of line.old)) (C.values cells.old) (C.reads cells.old) (left_of input.old) }
+        ensures is_of { IsProcessOf program.now self.new (line_left result (text_of line.new)) }
         ensures fits { Fits program.now.layout (C.values cells.new) }
         ensures same_test { C.may_get cells.new ≡ C.may_get cells.old }
-        ensures same_input { left_of input.new ≡ left_of input.old }
+        ensures printed { result ≡ Stepped.Printed → length (text_of line.new) ≤ most_line_bytes }
     {
         match statement_at(program, self.unit, self.at) {
             None => Stepped::Ended,
-            Some(_done) if self.increments => self.increment(program, cells),
-            Some(listed) => self.statement(program, &listed.stmt, cells, line),
+            Some(listed) => match self.stage {
+                Stage::Increment => self.increment(program, cells),
+                Stage::Statement => self.statement(program, &listed.stmt, cells, line),
+            },
         }
     }
 
@@ -163,8 +190,8 @@ impl Process {
         requires numbers { InnermostNumbersFit (length (C.values cells.old)) self.old.active.items }
         requires fits { Fits program.now.layout (C.values cells.old) }
         requires after { self.old.at + 1 < 2 ^ 64 }
-        ensures next { (text : List ℕ) → outcome_from result (process_of self.new) (C.values cells.new) (C.reads cells.new) text
-            ≡ outcome_by (increment_event (actives_of self.old.active.items)) (past_increment self.old.unit self.old.at (actives_of self.old.active.items)) (process_of self.old) (C.values cells.old) (C.reads cells.old) text }
+        ensures next { (input text : List ℕ) → outcome_left result self.new (C.values cells.new) (C.reads cells.new) input text
+            ≡ outcome_of_move (increment_move (frame_of self.old) [] text (actives_of self.old.active.items)) self.old (C.values cells.old) (C.reads cells.old) input text }
         ensures fits { Fits program.now.layout (C.values cells.new) }
         ensures same_test { C.may_get cells.new ≡ C.may_get cells.old }
         ensures place { KeepsPlace program.now self.old self.new }
@@ -191,18 +218,16 @@ impl Process {
         cells: &mut C,
         line: &mut Line,
     ) -> Stepped
-        requires storage { IsStorage program.now.layout }
+        requires sound { IsSound program.now }
+        requires meaning { IsTrue (statement_has_meaning program.now.layout self.old.unit stmt.now) }
         requires room { statement_reads program.now.layout self.old.unit stmt.now ≤ self.old.room }
         requires fits { Fits program.now.layout (C.values cells.old) }
         requires allowed { (address : ℕ) → IsTrue (C.may_get cells.old address) }
-        requires clear { IsClearFor stmt.now (text_of line.old) }
         requires after { self.old.at + 1 < 2 ^ 64 }
-        requires sound { IsSound program.now }
         requires few { statement_number program.now.units self.old.unit self.old.at + 1 < 2 ^ 32 }
         requires depth { HasLoopRoom stmt.now self.old }
-        requires control { self.old.increments ≡ false }
-        ensures next { outcome_from result (process_of self.new) (C.values cells.new) (C.reads cells.new) (text_of line.new)
-            ≡ outcome_by (statement_event program.now self.old.unit self.old.at stmt.now self.old.answers.items) (after_statement program.now (process_of self.old) stmt.now) (process_of self.old) (C.values cells.old) (C.reads cells.old) (text_of line.old) }
+        ensures next { (input : List ℕ) → outcome_left result self.new (C.values cells.new) (C.reads cells.new) input (text_of line.new)
+            ≡ outcome_of_move (statement_move (frame_of self.old) [] (text_of line.old) program.now stmt.now) self.old (C.values cells.old) (C.reads cells.old) input (text_of line.old) }
         ensures fits { Fits program.now.layout (C.values cells.new) }
         ensures same_test { C.may_get cells.new ≡ C.may_get cells.old }
         ensures place { KeepsPlace program.now self.old self.new }
@@ -211,8 +236,31 @@ impl Process {
             Stmt::Assign { target, value } => self.assign(program, target, value, cells),
             Stmt::Do { control, .. } => self.begin(program, control, cells),
             Stmt::Continue => self.pass(program),
+            Stmt::Return => Stepped::Ended,
+            Stmt::Else => Stepped::Ended,
+            Stmt::EndIf => Stepped::Ended,
+            Stmt::End => Stepped::Ended,
+            Stmt::Stop(_) => Stepped::Ended,
+            Stmt::Goto(_) => Stepped::Ended,
+            Stmt::ComputedGoto { .. } => Stepped::Ended,
+            Stmt::ArithmeticIf { .. } => Stepped::Ended,
+            Stmt::LogicalIf { .. } => Stepped::Ended,
+            Stmt::BlockIf(_) => Stepped::Ended,
+            Stmt::ElseIf(_) => Stepped::Ended,
+            Stmt::Call { .. } => Stepped::Ended,
             Stmt::Print(items) => self.print(program, items, cells, line),
-            _ => Stepped::Ended,
+            Stmt::Read(_) => Stepped::Ended,
+            Stmt::Program(_) => Stepped::Ended,
+            Stmt::Subroutine { .. } => Stepped::Ended,
+            Stmt::Function { .. } => Stepped::Ended,
+            Stmt::Declare { .. } => Stepped::Ended,
+            Stmt::Dimension(_) => Stepped::Ended,
+            Stmt::Common(_) => Stepped::Ended,
+            Stmt::Equivalence(_) => Stepped::Ended,
+            Stmt::Parameter(_) => Stepped::Ended,
+            Stmt::Implicit(_) => Stepped::Ended,
+            Stmt::Save(_) => Stepped::Ended,
+            Stmt::Init(_) => Stepped::Ended,
         }
     }
 
@@ -220,48 +268,11 @@ impl Process {
     fn pass(&mut self, program: &Program) -> Stepped
         requires after { self.old.at + 1 < 2 ^ 64 }
         ensures stepped { result ≡ Inner }
-        ensures process { process_of self.new ≡ past_statement self.old.unit self.old.at (actives_of self.old.active.items) }
+        ensures frame { frame_of self.new ≡ past_statement (frame_of self.old) }
         ensures place { KeepsPlace program.now self.old self.new }
     {
         self.go_past(program, self.at);
         Stepped::Inner
-    }
-
-    /// A step of a DO statement.
-    fn begin<C: Cells>(
-        &mut self,
-        program: &Program,
-        control: &LoopControl,
-        cells: &mut C,
-    ) -> Stepped
-        requires sound { IsSound program.now }
-        requires room { control_reads control.now ≤ self.old.room }
-        requires fits { Fits program.now.layout (C.values cells.old) }
-        requires allowed { (address : ℕ) → IsTrue (C.may_get cells.old address) }
-        requires few { statement_number program.now.units self.old.unit self.old.at + 1 < 2 ^ 32 }
-        requires depth { length self.old.active.items < self.old.depth }
-        ensures next { (text : List ℕ) → outcome_from result (process_of self.new) (C.values cells.new) (C.reads cells.new) text
-            ≡ outcome_by (do_event (loop_of_do program.now self.old.unit self.old.at) (begun_of program.now.layout self.old.unit control.now self.old.answers.items)) (after_begun (process_of self.old) (loop_of_do program.now self.old.unit self.old.at) (begun_of program.now.layout self.old.unit control.now self.old.answers.items)) (process_of self.old) (C.values cells.old) (C.reads cells.old) text }
-        ensures fits { Fits program.now.layout (C.values cells.new) }
-        ensures same_test { C.may_get cells.new ≡ C.may_get cells.old }
-        ensures place { KeepsPlace program.now self.old self.new }
-    {
-        let Some(found) = loop_of_do(program, self.unit, self.at) else {
-            return Stepped::Ended;
-        };
-        match begin(&program.layout, self.unit, control, self.answers.as_slice()) {
-            Evaluated::Gives(begun, _rest) => {
-                cells.put(begun.variable, begun.first);
-                self.enter(program, ActiveLoop::new(self.at, *found, begun));
-                Stepped::Wrote {
-                    address: begun.variable,
-                    by: None,
-                    control: None,
-                }
-            }
-            Evaluated::Wants(address) => self.read(address, cells),
-            Evaluated::Fails(fault) => Stepped::Faulted(fault),
-        }
     }
 
     /// A step of an assignment.
@@ -273,12 +284,14 @@ impl Process {
         cells: &mut C,
     ) -> Stepped
         requires storage { IsStorage program.now.layout }
+        requires target { IsTrue (ref_has_meaning program.now.layout self.old.unit target.now) }
+        requires meaning { IsTrue (expr_has_meaning program.now.layout self.old.unit value.now) }
         requires room { subscript_reads target.now + reads_in value.now ≤ self.old.room }
         requires fits { Fits program.now.layout (C.values cells.old) }
         requires allowed { (address : ℕ) → IsTrue (C.may_get cells.old address) }
         requires after { self.old.at + 1 < 2 ^ 64 }
-        ensures next { (text : List ℕ) → outcome_from result (process_of self.new) (C.values cells.new) (C.reads cells.new) text
-            ≡ outcome_by (write_event (written_of program.now.layout self.old.unit target.now value.now self.old.answers.items)) (past_statement self.old.unit self.old.at (actives_of self.old.active.items)) (process_of self.old) (C.values cells.old) (C.reads cells.old) text }
+        ensures next { (input text : List ℕ) → outcome_left result self.new (C.values cells.new) (C.reads cells.new) input text
+            ≡ outcome_of_move (write_move (frame_of self.old) [] text (written_of (setting_in program.now.layout self.old.unit) target.now value.now self.old.answers.items)) self.old (C.values cells.old) (C.reads cells.old) input text }
         ensures fits { Fits program.now.layout (C.values cells.new) }
         ensures same_test { C.may_get cells.new ≡ C.may_get cells.old }
         ensures place { KeepsPlace program.now self.old self.new }
@@ -290,21 +303,97 @@ impl Process {
             value,
             self.answers.as_slice(),
         ) {
-            Evaluated::Gives((address, value), _rest) => {
-                cells.put(address, value);
-                self.go_past(program, self.at);
-                Stepped::Wrote {
-                    address,
-                    by: None,
-                    control: None,
-                }
-            }
-            Evaluated::Wants(address) => self.read(address, cells),
+            Evaluated::Gives(written, _rest) => self.write(program, written, cells),
+            Evaluated::Wants(address, _by) => self.read(address, cells),
             Evaluated::Fails(fault) => Stepped::Faulted(fault),
         }
     }
 
-    /// A step of a PRINT.
+    /// The write of an assignment; one to the variable of a running DO is a fault.
+    fn write<C: Cells>(&mut self, program: &Program, written: Written, cells: &mut C) -> Stepped
+        requires within { written.address < length (C.values cells.old) }
+        requires after { self.old.at + 1 < 2 ^ 64 }
+        requires fits { Fits program.now.layout (C.values cells.old) }
+        ensures next { (input text : List ℕ) → outcome_left result self.new (C.values cells.new) (C.reads cells.new) input text
+            ≡ outcome_of_move (unless_blocked (is_blocked written.address (frame_of self.old ∷ [])) (writing written.address written.value written.by None (past_statement (frame_of self.old) ∷ []))) self.old (C.values cells.old) (C.reads cells.old) input text }
+        ensures fits { Fits program.now.layout (C.values cells.new) }
+        ensures same_test { C.may_get cells.new ≡ C.may_get cells.old }
+        ensures place { KeepsPlace program.now self.old self.new }
+    {
+        if self.is_blocked(written.address) {
+            return Stepped::Faulted(Fault::DoVariableWritten);
+        }
+        cells.put(written.address, written.value);
+        self.go_past(program, self.at);
+        Stepped::Wrote {
+            address: written.address,
+            by: None,
+            control: None,
+        }
+    }
+
+    /// A step of a DO statement.
+    fn begin<C: Cells>(
+        &mut self,
+        program: &Program,
+        control: &LoopControl,
+        cells: &mut C,
+    ) -> Stepped
+        requires sound { IsSound program.now }
+        requires meaning { IsTrue (control_has_meaning program.now.layout self.old.unit control.now) }
+        requires room { control_reads control.now ≤ self.old.room }
+        requires fits { Fits program.now.layout (C.values cells.old) }
+        requires allowed { (address : ℕ) → IsTrue (C.may_get cells.old address) }
+        requires few { statement_number program.now.units self.old.unit self.old.at + 1 < 2 ^ 32 }
+        requires depth { length self.old.active.items < self.old.depth }
+        ensures next { (input text : List ℕ) → outcome_left result self.new (C.values cells.new) (C.reads cells.new) input text
+            ≡ outcome_of_move (do_move (frame_of self.old) [] text (loop_of_do program.now self.old.unit self.old.at) (begun_of (setting_in program.now.layout self.old.unit) control.now self.old.answers.items)) self.old (C.values cells.old) (C.reads cells.old) input text }
+        ensures fits { Fits program.now.layout (C.values cells.new) }
+        ensures same_test { C.may_get cells.new ≡ C.may_get cells.old }
+        ensures place { KeepsPlace program.now self.old self.new }
+    {
+        let Some(found) = loop_of_do(program, self.unit, self.at) else {
+            return Stepped::Ended;
+        };
+        match begin(&program.layout, self.unit, control, self.answers.as_slice()) {
+            Evaluated::Gives(begun, _rest) => self.begin_loop(program, *found, begun, cells),
+            Evaluated::Wants(address, _by) => self.read(address, cells),
+            Evaluated::Fails(fault) => Stepped::Faulted(fault),
+        }
+    }
+
+    /// The write with which a loop begins; one to the variable of a running DO is a fault.
+    fn begin_loop<C: Cells>(
+        &mut self,
+        program: &Program,
+        found: Loop,
+        begun: Begun,
+        cells: &mut C,
+    ) -> Stepped
+        requires within { begun.variable < length (C.values cells.old) }
+        requires small { self.old.at < 2 ^ 32 }
+        requires depth { length self.old.active.items < self.old.depth }
+        requires fits { Fits program.now.layout (C.values cells.old) }
+        ensures next { (input text : List ℕ) → outcome_left result self.new (C.values cells.new) (C.reads cells.new) input text
+            ≡ outcome_of_move (unless_blocked (is_blocked begun.variable (frame_of self.old ∷ [])) (writing begun.variable begun.first None (Some (Began found.ordinal)) (past_do (active_from self.old.at found (as_begun begun)) (frame_of self.old) ∷ []))) self.old (C.values cells.old) (C.reads cells.old) input text }
+        ensures fits { Fits program.now.layout (C.values cells.new) }
+        ensures same_test { C.may_get cells.new ≡ C.may_get cells.old }
+        ensures place { KeepsPlace program.now self.old self.new }
+    {
+        if self.is_blocked(begun.variable) {
+            return Stepped::Faulted(Fault::DoVariableWritten);
+        }
+        cells.put(begun.variable, begun.first);
+        self.enter(program, ActiveLoop::new(self.at, found, begun));
+        Stepped::Wrote {
+            address: begun.variable,
+            by: None,
+            control: None,
+        }
+    }
+
+    /// A step of a PRINT: items whose values are known go into the line, and are forgotten; the next one that isn't known
+    /// reads. A fault leaves the line as it was.
     fn print<C: Cells>(
         &mut self,
         program: &Program,
@@ -313,46 +402,61 @@ impl Process {
         line: &mut Line,
     ) -> Stepped
         requires storage { IsStorage program.now.layout }
-        requires room { items_reads program.now.layout self.old.unit items.now ≤ self.old.room }
+        requires meaning { IsTrue (list_all (item_has_meaning program.now.layout self.old.unit) items.now) }
+        requires room { most_reads program.now.layout self.old.unit items.now ≤ self.old.room }
         requires fits { Fits program.now.layout (C.values cells.old) }
         requires allowed { (address : ℕ) → IsTrue (C.may_get cells.old address) }
-        requires items { text_of line.old ≡ [] }
         requires after { self.old.at + 1 < 2 ^ 64 }
-        ensures next { outcome_from result (process_of self.new) (C.values cells.new) (C.reads cells.new) (text_of line.new)
-            ≡ outcome_by (print_event (line_of_items program.now.layout self.old.unit items.now self.old.answers.items)) (past_statement self.old.unit self.old.at (actives_of self.old.active.items)) (process_of self.old) (C.values cells.old) (C.reads cells.old) (text_of line.old) }
+        ensures next { (input : List ℕ) → outcome_left result self.new (C.values cells.new) (C.reads cells.new) input (text_of line.new)
+            ≡ outcome_of_move (print_move (frame_of self.old) [] (text_of line.old) (printed_of (setting_in program.now.layout self.old.unit) items.now (frame_of self.old) (text_of line.old))) self.old (C.values cells.old) (C.reads cells.old) input (text_of line.old) }
         ensures fits { Fits program.now.layout (C.values cells.new) }
         ensures same_test { C.may_get cells.new ≡ C.may_get cells.old }
         ensures place { KeepsPlace program.now self.old self.new }
     {
-        match print_line(
-            &program.layout,
-            self.unit,
-            items.as_slice(),
-            line,
-            self.answers.as_slice(),
-        ) {
-            Evaluated::Gives((), _rest) => {
+        let length = line.len();
+        let from = Printing {
+            items: self.items,
+            cells: u64::from(self.cells),
+            answers: self.answers.as_slice(),
+        };
+        let left = items_from(items.as_slice(), self.items);
+        match print_items(&program.layout, self.unit, left, from, line) {
+            Printed::GoesOn(_all) => {
+                fill(line);
                 self.go_past(program, self.at);
                 Stepped::Printed
             }
-            Evaluated::Wants(address) => {
-                line.clear();
+            Printed::Asks(address, _by, here) => {
+                let (items, elements, kept) = (here.items, here.cells as u32, here.answers.len());
+                self.keep(items, elements, kept);
                 self.read(address, cells)
             }
-            Evaluated::Fails(fault) => {
-                line.clear();
+            Printed::Stops(fault) => {
+                line.truncate(length);
                 Stepped::Faulted(fault)
             }
         }
     }
 
-    /// Reads a unit, and keeps its value beside those that the statement has read.
+    /// Notes how far a statement is done, and keeps the first `kept` answers.
+    fn keep(&mut self, items: usize, cells: u32, kept: usize)
+        requires { kept ≤ length self.old.answers.items }
+        ensures frame { frame_of self.new ≡ with_done items cells (take kept self.old.answers.items) (frame_of self.old) }
+        ensures room { self.new.room ≡ self.old.room }
+        ensures place { (program : Program) → KeepsPlace program self.old self.new }
+    {
+        self.items = items;
+        self.cells = cells;
+        self.answers.truncate(kept);
+    }
+
+    /// Reads an address, and keeps its value beside the answers.
     fn read<C: Cells>(&mut self, address: u32, cells: &mut C) -> Stepped
         requires within { address < length (C.values cells.old) }
         requires allowed { IsTrue (C.may_get cells.old address) }
         requires room { length self.old.answers.items < self.old.room }
-        ensures next { (done : meaning.Process) (text : List ℕ) → outcome_from result (process_of self.new) (C.values cells.new) (C.reads cells.new) text
-            ≡ outcome_by (reads address None) done (process_of self.old) (C.values cells.old) (C.reads cells.old) text }
+        ensures next { (by : Option RedOp) (p : meaning.Process) (input text : List ℕ) → outcome_left result self.new (C.values cells.new) (C.reads cells.new) input text
+            ≡ outcome_by (reading address by (frame_of self.old) [] text) p (C.values cells.old) (C.reads cells.old) input }
         ensures values { C.values cells.new ≡ C.values cells.old }
         ensures same_test { C.may_get cells.new ≡ C.may_get cells.old }
         ensures place { (program : Program) → KeepsPlace program self.old self.new }
@@ -361,72 +465,32 @@ impl Process {
         self.answers.push_reserved(value);
         Stepped::Read { address, by: None }
     }
-}
 
-/// The place of the first executable statement of the main unit.
-fn entry(program: &Program) -> usize
-    ensures { result ≡ entry_of program.now.units }
-{
-    match program.units.get(0) {
-        None => 0,
-        Some(main) => first_executable(&main.listing),
+    /// Whether an address is that of the variable of a running DO.
+    fn is_blocked(&self, address: u32) -> bool
+        ensures { result ≡ is_blocked address (frame_of self.now ∷ []) }
+    {
+        is_variable_of_any(self.active.as_slice(), address)
     }
 }
 
-/// The place of the first executable statement.
-fn first_executable(listing: &Listing) -> usize
-    ensures { result ≡ first_executable listing.now }
+/// The items from a place on; none past the last one.
+fn items_from(items: &[Item], place: usize) -> &[Item]
+    ensures value { result.now ≡ drop place items.now }
+    ensures few { place + length result.now < 2 ^ 64 }
 {
-    for (place, listed) in listing.as_slice().iter().enumerate() {
-        if is_executable(&listed.stmt) {
-            return place;
-        }
-    }
-    listing.len()
-}
-
-/// Whether a statement is executable (ANSI X3.9-1978, section 7).
-fn is_executable(stmt: &Stmt) -> bool
-    ensures { result ≡ is_executable stmt.now }
-{
-    match stmt {
-        Stmt::Program(_) => false,
-        Stmt::Subroutine { .. } => false,
-        Stmt::Function { .. } => false,
-        Stmt::Declare { .. } => false,
-        Stmt::Dimension(_) => false,
-        Stmt::Common(_) => false,
-        Stmt::Equivalence(_) => false,
-        Stmt::Parameter(_) => false,
-        Stmt::Implicit(_) => false,
-        Stmt::Save(_) => false,
-        Stmt::Init(_) => false,
-        _ => true,
+    if place < items.len() {
+        &items[place..]
+    } else {
+        &items[items.len()..]
     }
 }
 
-/// The statement at a place of a unit, both counted from 0.
-fn statement_at(program: &Program, unit: u32, at: usize) -> Option<&Listed>
-    ensures listed { option_copied result ≡ statement_at program.now unit at }
-    ensures after { OnSome result (at + 1 < 2 ^ 64) }
+/// Makes a line without items one blank.
+fn fill(line: &mut Line)
+    ensures { text_of line.new ≡ or_blank (text_of line.old) }
 {
-    statement_of_unit(program.units.as_slice(), unit, at)
-}
-
-/// The statement at a place of a unit, looked for in the units.
-fn statement_of_unit(units: &[Unit], unit: u32, at: usize) -> Option<&Listed>
-    ensures listed { option_copied result ≡ option_and_then (λ entered. slice_get entered.listing at) (slice_get units.now unit) }
-    ensures after { OnSome result (at + 1 < 2 ^ 64) }
-{
-    units.get(unit as usize)?.listing.as_slice().get(at)
-}
-
-/// The initial line of the statement at a place of a unit.
-fn line_at(program: &Program, unit: u32, at: usize) -> u32
-    ensures { result ≡ source_line (statement_at program.now unit at) }
-{
-    match statement_at(program, unit, at) {
-        None => 0,
-        Some(listed) => listed.card.line,
+    if line.text().is_empty() {
+        line.set_blank();
     }
 }

@@ -2,8 +2,8 @@
 
 use f77_ast::fault::Fault;
 use f77_front::front::front;
-use f77_machine::input::Input;
-use f77_machine::line::Line;
+use f77_io::input::Input;
+use f77_io::line::Line;
 use f77_machine::process::Process;
 use hyb_base::bytes::Bytes;
 use std::alloc::Global;

@@ -13,10 +13,10 @@ use Rattle.f77_structure.specs.Units.{source_line}
 use Rattle.f77_meaning.specs.Process.{listed_at}
 use Rattle.f77_meaning.specs.Run.{Run, run_from, one_more, Ended, Faulted}
 use Rattle.f77_meaning.proofs.Runs.{stepped_run, run_from-step}
-use Rattle.f77_machine.specs.declared.line.Line.{Line}
+use Rattle.f77_io.specs.declared.line.Line.{Line}
 use Rattle.f77_machine.specs.declared.process.Process.{Process}
 use Rattle.f77_machine.specs.declared.store.Store.{Store}
-use Rattle.f77_machine.specs.Line.{text_of}
+use Rattle.f77_io.specs.Line.{text_of}
 use Rattle.f77_machine.specs.Process.{process_of}
 use Rattle.f77_machine.specs.Store.{values_of, reads_of}
 use Rattle.hybrid_top.specs.Answer.{ran, line_piece, Shows}

@@ -3,8 +3,8 @@ use Rattle.std.specs.Prelude.{◌≡◌, ℕ, List, []}
 use Rattle.f77_ast.specs.declared.program.Program.{Program}
 use Rattle.f77_meaning.specs.Process.{first_process}
 use Rattle.f77_meaning.specs.Sound.{IsSound, Fits}
-use Rattle.f77_machine.specs.Input.{left_of}
-use Rattle.f77_machine.specs.Line.{text_of}
+use Rattle.f77_io.specs.Input.{left_of}
+use Rattle.f77_io.specs.Line.{text_of}
 use Rattle.f77_machine.specs.Process.{process_of, IsProcessOf}
 use Rattle.f77_machine.specs.Store.{values_of}
 use Rattle.hybrid_top.specs.declared.machine.Machine.{Machine}

@@ -4,8 +4,8 @@ ghost use Rattle.f77_meaning.specs.Sound.{IsSound};
 ghost use Rattle.hybrid_top.specs.Machine.{IsAtStart};
 
 use f77_ast::program::Program;
-use f77_machine::input::Input;
-use f77_machine::line::Line;
+use f77_io::input::Input;
+use f77_io::line::Line;
 use f77_machine::process::Process;
 use f77_machine::store::Store;
 use hyb_base::bytes::Bytes;

@@ -1,12 +1,14 @@
 //! How control goes through the statements of a unit and its DO-loops (ANSI X3.9-1978, sections 11.10.2 to 11.10.7).
 ghost use Rattle.std.specs.Prelude.{◌≡◌, ◌+◌, ◌^◌, ◌<◌, ◌≤◌, ◌∷◌, [], length};
-ghost use Rattle.f77_meaning.specs.Step.{past_statement, past_do, past_increment, is_terminal};
+ghost use Rattle.f77_meaning.specs.Process.{come_to};
+ghost use Rattle.f77_meaning.specs.Step.{past, past_do, past_increment, is_terminal};
 ghost use Rattle.f77_machine.specs.Active.{active_of, actives_of};
-ghost use Rattle.f77_machine.specs.Process.{process_of, KeepsPlace};
+ghost use Rattle.f77_machine.specs.Process.{frame_of, stage_of, KeepsPlace};
 
-use super::{Process, line_at};
+use super::{Process, Stage};
 use crate::active::ActiveLoop;
 use f77_ast::program::Program;
+use f77_structure::units::source_line;
 
 impl Process {
     /// A DO statement was executed: the range of its loop is run where its count isn't zero. Where that is zero,
@@ -14,14 +16,14 @@ impl Process {
     pub fn enter(&mut self, program: &Program, new: ActiveLoop)
         requires room { length self.old.active.items < self.old.depth }
         requires after { new.last + 1 < 2 ^ 64 }
-        ensures process { process_of self.new ≡ past_do self.old.unit (active_of new) (actives_of self.old.active.items) }
+        ensures frame { frame_of self.new ≡ past_do (active_of new) (frame_of self.old) }
         ensures place { KeepsPlace program.now self.old self.new }
     {
         if new.count == 0 {
             self.go_past(program, new.last);
         } else {
             self.active.push_reserved(new);
-            self.stand_at(program, new.from, false);
+            self.come_to(program, new.from, Stage::Statement);
         }
     }
 
@@ -31,12 +33,12 @@ impl Process {
         requires room { length self.old.active.items < self.old.depth }
         requires left { innermost.done < innermost.count }
         requires after { self.old.at + 1 < 2 ^ 64 }
-        ensures process { process_of self.new ≡ past_increment self.old.unit self.old.at (active_of innermost ∷ actives_of self.old.active.items) }
+        ensures frame { frame_of self.new ≡ past_increment (active_of innermost ∷ actives_of self.old.active.items) (frame_of self.old) }
         ensures place { KeepsPlace program.now self.old self.new }
     {
         if innermost.done + 1 < innermost.count {
             self.active.push_reserved(innermost.after_iteration());
-            self.stand_at(program, innermost.from, false);
+            self.come_to(program, innermost.from, Stage::Statement);
         } else {
             self.go_past(program, self.at);
         }
@@ -46,13 +48,13 @@ impl Process {
     /// loop's incrementation processing comes next (section 11.10.6), and else the next statement.
     pub fn go_past(&mut self, program: &Program, at: usize)
         requires after { at + 1 < 2 ^ 64 }
-        ensures process { process_of self.new ≡ past_statement self.old.unit at (actives_of self.old.active.items) }
+        ensures frame { frame_of self.new ≡ past at (actives_of self.old.active.items) (frame_of self.old) }
         ensures place { KeepsPlace program.now self.old self.new }
     {
         if self.is_terminal(at) {
-            self.stand_at(program, at, true);
+            self.come_to(program, at, Stage::Increment);
         } else {
-            self.stand_at(program, at + 1, false);
+            self.come_to(program, at + 1, Stage::Statement);
         }
     }
 
@@ -66,15 +68,16 @@ impl Process {
         }
     }
 
-    /// Stands at a statement, which has read nothing, or which is done where it increments.
-    fn stand_at(&mut self, program: &Program, at: usize, increments: bool)
-        ensures process { process_of self.new
-            ≡ record { unit = self.old.unit; at = at; answers = []; active = actives_of self.old.active.items; increments = increments } }
+    /// Comes to a statement: what was known of the one before is forgotten.
+    fn come_to(&mut self, program: &Program, at: usize, stage: Stage)
+        ensures frame { frame_of self.new ≡ come_to at (stage_of stage) (actives_of self.old.active.items) (frame_of self.old) }
         ensures place { KeepsPlace program.now self.old self.new }
     {
         self.at = at;
-        self.increments = increments;
+        self.stage = stage;
+        self.items = 0;
+        self.cells = 0;
         self.answers.clear();
-        self.line = line_at(program, self.unit, at);
+        self.line = source_line(program, self.unit, at);
     }
 }

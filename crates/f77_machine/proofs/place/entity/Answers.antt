@@ -1,5 +1,5 @@
 use Rattle.std.proofs.Common.{sym}
-use Rattle.f77_meaning.proofs.Stands.{entity_lies}
+use Rattle.f77_meaning.proofs.Begins.{entity_lies}
 use Rattle.f77_machine.proofs.place.entity.Goals as goal
 
 -- what is found is one of the entities, which all lie in storage

@@ -4,7 +4,7 @@ use Rattle.hyb_outside.specs.Pieces.{sinks}
 use Rattle.hyb_outside.specs.SinkSeen.{SinkSeen}
 use Rattle.f77_meaning.specs.Run.{run_from}
 use Rattle.f77_meaning.specs.Sound.{IsSound, Fits}
-use Rattle.f77_machine.specs.Line.{text_of}
+use Rattle.f77_io.specs.Line.{text_of}
 use Rattle.f77_machine.specs.Process.{process_of, IsProcessOf}
 use Rattle.f77_machine.specs.Store.{values_of}
 use Rattle.hybrid_top.specs.Answer.{ran, Shows}
