@@ -11,8 +11,8 @@ use Rattle.hyb_outside.specs.SinkSeen.{SinkSeen, Takes}
 use Rattle.hyb_outside.proofs.Emits.{share_of-append, emits_idle}
 use Rattle.f77_ast.specs.declared.program.Program.{Program}
 use Rattle.f77_ast.specs.declared.refusal.Refusal.{Refusal}
-use Rattle.f77_meaning.specs.Run.{Run, End, Ended, Faulted, Spent, sequential_run}
-use Rattle.hybrid_top.specs.Answer.{Answer, stops, status_of, ran, IsAnswer, usage, program_fault, input_fault, schedule_fault, no_memory, program_limit, refused, input_limit, schedule_limit, run, line_piece, status_pieces, pieces_of, Gives, whole, cut, Answered}
+use Rattle.f77_meaning.specs.Run.{Run, End, Ended, Faulted, Spent, Shown, Line, sequential_run}
+use Rattle.hybrid_top.specs.Answer.{Answer, stops, status_of, ran, IsAnswer, usage, program_fault, input_fault, schedule_fault, no_memory, program_limit, refused, input_limit, schedule_limit, run, shown_piece, status_pieces, pieces_of, Gives, whole, cut, Answered}
 use Rattle.hybrid_top.specs.Causes.{NoneFailed, IsOrYields, Tells, TellsMore, FileLimitComes, IsFile, FileLimitOnly, RefusedComes, RefusedOnly, lines_text, is_of_run, IsRun, RunOnly, RunComes, RunCompletes, is_before_run}
 use Rattle.hybrid_top.specs.Command.{RunRequest}
 use Rattle.f77_front.specs.Front.{front_of}
@@ -25,8 +25,8 @@ use Rattle.hybrid_top.specs.declared.status.Status.TheVariants as status
 status_is : (a : Answer) (s : Status) → a ≡ stops s → a.status ≡ s
 status_is a s e = ap (λ (b : Answer). b.status) e
 
-lines_are : (a : Answer) (s : Status) → a ≡ stops s → a.lines ≡ []
-lines_are a s e = ap (λ (b : Answer). b.lines) e
+shows_none : (a : Answer) (s : Status) → a ≡ stops s → a.shown ≡ []
+shows_none a s e = ap (λ (b : Answer). b.shown) e
 
 ran_status : (a : Answer) (r : Run) → a ≡ ran r → a.status ≡ status_of r.end
 ran_status a r e = ap (λ (b : Answer). b.status) e
@@ -170,17 +170,17 @@ never_schedule old new q a (schedule_limit r bytes program input n w f i long en
 never_schedule old new q a (run r bytes program input schedule n w f i s ended e) line u = not_of_run (sequential_run program input r.steps).end (status.BadSchedule line) refl (sym (ran_status a (sequential_run program input r.steps) e) ∙ u)
 
 -- before the first step no line is printed
-pub no_lines : (old new : FilesSeen) (q : Option RunRequest) (a : Answer) → IsAnswer old new q a → is_before_run a.status ≡ true → a.lines ≡ []
-no_lines old new q a (usage n calm e) u = lines_are a status.Usage e
-no_lines old new q a (program_fault r n rose same e) u = lines_are a status.ReadFault e
-no_lines old new q a (input_fault r bytes program n w f rose ended e) u = lines_are a status.ReadFault e
-no_lines old new q a (schedule_fault r bytes program input n w f i rose ended e) u = lines_are a status.ReadFault e
-no_lines old new q a (no_memory r n e) u = lines_are a status.NoMemory e
-no_lines old new q a (program_limit r n long ended e) u = lines_are a (status.FileLimit 1) e
-no_lines old new q a (refused r bytes refusal n w f ended e) u = lines_are a (status.Refused refusal) e
-no_lines old new q a (input_limit r bytes program n w f long ended e) u = lines_are a (status.FileLimit 2) e
-no_lines old new q a (schedule_limit r bytes program input n w f i long ended e) u = lines_are a (status.FileLimit 3) e
-no_lines old new q a (run r bytes program input schedule n w f i s ended e) u = absurd (run_not_before (sequential_run program input r.steps).end (sym (ap is_before_run (ran_status a (sequential_run program input r.steps) e)) ∙ u))
+pub none_shown : (old new : FilesSeen) (q : Option RunRequest) (a : Answer) → IsAnswer old new q a → is_before_run a.status ≡ true → a.shown ≡ []
+none_shown old new q a (usage n calm e) u = shows_none a status.Usage e
+none_shown old new q a (program_fault r n rose same e) u = shows_none a status.ReadFault e
+none_shown old new q a (input_fault r bytes program n w f rose ended e) u = shows_none a status.ReadFault e
+none_shown old new q a (schedule_fault r bytes program input n w f i rose ended e) u = shows_none a status.ReadFault e
+none_shown old new q a (no_memory r n e) u = shows_none a status.NoMemory e
+none_shown old new q a (program_limit r n long ended e) u = shows_none a (status.FileLimit 1) e
+none_shown old new q a (refused r bytes refusal n w f ended e) u = shows_none a (status.Refused refusal) e
+none_shown old new q a (input_limit r bytes program n w f long ended e) u = shows_none a (status.FileLimit 2) e
+none_shown old new q a (schedule_limit r bytes program input n w f i long ended e) u = shows_none a (status.FileLimit 3) e
+none_shown old new q a (run r bytes program input schedule n w f i s ended e) u = absurd (run_not_before (sequential_run program input r.steps).end (sym (ap is_before_run (ran_status a (sequential_run program input r.steps) e)) ∙ u))
 
 -- a status of a run is that of the sequential run
 pub run_only : (old new : FilesSeen) (q : Option RunRequest) (a : Answer) → IsAnswer old new q a → is_of_run a.status ≡ true → RanBy q old a
@@ -278,12 +278,12 @@ gives_emits a result old new (whole e t) = (Ok tt, record { ok = t; failed = tt 
 gives_emits a result old new (cut e s) = (Err (record {}), record { ok = tt; failed = s })
 
 -- the shares of an answer's pieces
-lines_for : (to : SinkName) (lines : List (List ℕ)) → to ≢ Out → share_of to (map line_piece lines) ≡ []
-lines_for Out lines n = absurd (n refl)
+lines_for : (to : SinkName) (shown : List Shown) → to ≢ Out → share_of to (map shown_piece shown) ≡ []
+lines_for Out shown n = absurd (n refl)
 lines_for Notes [] n = refl
-lines_for Notes (line ∷ lines) n = lines_for Notes lines n
+lines_for Notes (Line text ∷ shown) n = lines_for Notes shown n
 lines_for Order [] n = refl
-lines_for Order (line ∷ lines) n = lines_for Order lines n
+lines_for Order (Line text ∷ shown) n = lines_for Order shown n
 
 status_for_out : (s : Status) → share_of Out (status_pieces s) ≡ []
 status_for_out status.Done = refl
@@ -307,14 +307,14 @@ status_for_notes status.ReadFault = append-nil (status_text status.ReadFault)
 status_for_notes status.NoMemory = append-nil (status_text status.NoMemory)
 status_for_notes (status.FileLimit file) = append-nil (status_text (status.FileLimit file))
 
-share_out : (a : Answer) → share_of Out (pieces_of a) ≡ lines_text a.lines
-share_out a = share_of-append Out (map line_piece a.lines) (status_pieces a.status) ∙ ap (λ xs. lines_text a.lines ++ xs) (status_for_out a.status) ∙ append-nil (lines_text a.lines)
+share_out : (a : Answer) → share_of Out (pieces_of a) ≡ lines_text a.shown
+share_out a = share_of-append Out (map shown_piece a.shown) (status_pieces a.status) ∙ ap (λ xs. lines_text a.shown ++ xs) (status_for_out a.status) ∙ append-nil (lines_text a.shown)
 
 share_notes : (a : Answer) → share_of Notes (pieces_of a) ≡ status_text a.status
-share_notes a = share_of-append Notes (map line_piece a.lines) (status_pieces a.status) ∙ ap (λ xs. xs ++ share_of Notes (status_pieces a.status)) (lines_for Notes a.lines (λ e. cc)) ∙ status_for_notes a.status
+share_notes a = share_of-append Notes (map shown_piece a.shown) (status_pieces a.status) ∙ ap (λ xs. xs ++ share_of Notes (status_pieces a.status)) (lines_for Notes a.shown (λ e. cc)) ∙ status_for_notes a.status
 
 share_order : (a : Answer) → share_of Order (pieces_of a) ≡ []
-share_order a = share_of-append Order (map line_piece a.lines) (status_pieces a.status) ∙ ap (λ xs. xs ++ share_of Order (status_pieces a.status)) (lines_for Order a.lines (λ e. cc)) ∙ status_for_order a.status
+share_order a = share_of-append Order (map shown_piece a.shown) (status_pieces a.status) ∙ ap (λ xs. xs ++ share_of Order (status_pieces a.status)) (lines_for Order a.shown (λ e. cc)) ∙ status_for_order a.status
 
 -- what a sink takes where nothing is cut
 whole_takes : (a : Answer) (result : Status) (old new : SinkName → SinkSeen) → Gives a result old new → result ≢ status.WriteFault → (to : SinkName) → Takes (share_of to (pieces_of a)) (old to) (new to)
@@ -365,7 +365,7 @@ run_is : (q : Option RunRequest) (f : FilesSeen) (a : Answer) (result : Status) 
 run_is q f a result old new r g n =
     let s : result ≡ a.status = gives_status a result old new g n in
     let t : Takes (share_of Out (pieces_of a)) (old Out) (new Out) = whole_takes a result old new g n Out in
-    let l : share_of Out (pieces_of a) ≡ lines_text (sequential_run r.program r.input r.asked.steps).lines = share_out a ∙ ap (λ (b : Answer). lines_text b.lines) r.is in
+    let l : share_of Out (pieces_of a) ≡ lines_text (sequential_run r.program r.input r.asked.steps).shown = share_out a ∙ ap (λ (b : Answer). lines_text b.shown) r.is in
     record { asked = r.asked; bytes = r.bytes; program = r.program; input = r.input; request_is = r.request_is; program_is = r.program_is; accepted = r.accepted; input_is = r.input_is; schedule = r.schedule; schedule_is = r.schedule_is; status = s ∙ ran_status a (sequential_run r.program r.input r.asked.steps) r.is; lines = rw l at t }
 
 pub row_run_only : (q : Option RunRequest) (f g : FilesSeen) (result : Status) (old new : SinkName → SinkSeen) → Answered q f g result old new → RunOnly q f result (old Out) (new Out)
@@ -387,7 +387,7 @@ pub row_out : (q : Option RunRequest) (f g : FilesSeen) (result : Status) (old n
 row_out q f g result old new c u =
     let n : result ≢ status.WriteFault = λ e. let x : true ≡ false = sym u ∙ ap is_before_run e in cc in
     let s : result ≡ c.answer.status = gives_status c.answer result old new c.gives n in
-    let l : c.answer.lines ≡ [] = no_lines f g q c.answer c.is_answer (ap is_before_run (sym s) ∙ u) in
+    let l : c.answer.shown ≡ [] = none_shown f g q c.answer c.is_answer (ap is_before_run (sym s) ∙ u) in
     let t : Takes (share_of Out (pieces_of c.answer)) (old Out) (new Out) = whole_takes c.answer result old new c.gives n Out in
     let nothing : share_of Out (pieces_of c.answer) ≡ [] = share_out c.answer ∙ ap lines_text l in
     rw nothing at t

@@ -1,7 +1,6 @@
 pub mod CauseLemmas
 pub mod CommandLemmas
-pub mod LineLemmas
-pub mod PrepareLemmas
+pub pub mod PrepareLemmas
 pub mod ReadLemmas
 pub mod RunLemmas
 pub mod ShowLemmas

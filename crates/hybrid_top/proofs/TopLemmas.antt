@@ -5,6 +5,8 @@ use Rattle.hyb_outside.specs.declared.pieces.SinkName.{SinkName}
 use Rattle.hyb_outside.specs.FilesSeen.{FilesSeen}
 use Rattle.hyb_outside.specs.SinkSeen.{SinkSeen}
 use Rattle.f77_meaning.specs.Run.{run_from, sequential_run}
+use Rattle.f77_io.specs.Input.{left_of}
+use Rattle.f77_io.specs.Line.{text_of}
 use Rattle.f77_machine.specs.Process.{process_of}
 use Rattle.f77_machine.specs.Store.{values_of}
 use Rattle.hybrid_top.specs.Answer.{stops, ran, IsAnswer, run, Shows, Gives, Performed, Answered}
@@ -17,11 +19,11 @@ use Rattle.hybrid_top.proofs.CauseLemmas.{never_write}
 use Rattle.hybrid_top.proofs.ShowLemmas.{shows_along, shows_nothing, gives_cut, gives_then}
 
 -- the run of a prepared machine is the sequential run
-pub prepared_run : (seen : FilesSeen) (r : RunRequest) (m : Machine) (p : IsPrepared seen r m) → sequential_run p.program p.input r.steps ≡ run_from m.program (process_of m.process) (values_of m.store) r.steps
-prepared_run seen r m p = rw (p.start.program_is, p.start.process, p.start.store) refl
+pub prepared_run : (seen : FilesSeen) (r : RunRequest) (m : Machine) (p : IsPrepared seen r m) → sequential_run p.program p.input r.steps ≡ run_from m.program (process_of m.process (text_of m.line)) (values_of m.store) (left_of m.input) r.steps
+prepared_run seen r m p = rw (p.start.program_is, p.start.process, p.start.store, p.start.unread) refl
 
 -- what it shows is an answer
-pub prepared_performs : (old new : FilesSeen) (r : RunRequest) (m : Machine) (s : Status) (a b : SinkName → SinkSeen) → IsPrepared old r m → new.ends ≡ next_count (next_count (next_count old.ends)) → Shows (ran (run_from m.program (process_of m.process) (values_of m.store) r.steps)) s a b → Performed (Some r) old new s a b
+pub prepared_performs : (old new : FilesSeen) (r : RunRequest) (m : Machine) (s : Status) (a b : SinkName → SinkSeen) → IsPrepared old r m → new.ends ≡ next_count (next_count (next_count old.ends)) → Shows (ran (run_from m.program (process_of m.process (text_of m.line)) (values_of m.store) (left_of m.input) r.steps)) s a b → Performed (Some r) old new s a b
 prepared_performs old new r m s a b p ended h = record {
   answer = ran (sequential_run p.program p.input r.steps);
   is_answer = run r p.bytes p.program p.input p.schedule refl p.program_whole p.accepted p.input_whole p.schedule_whole ended refl;

@@ -1,4 +1,4 @@
--- What a command answers: a status and the lines that it prints, by what its files hold.
+-- What a command answers: a status and what it shows, by what its files hold.
 use Rattle.std.specs.Prelude.{◌≡◌, ℕ, List, [], ◌∷◌, ◌++◌, map, Option, None, Some, Ok, Err}
 use Rattle.hyb_base.specs.Count.{next_count, Rose}
 use Rattle.hyb_outside.specs.declared.pieces.SinkName.{SinkName}
@@ -8,7 +8,7 @@ use Rattle.hyb_outside.specs.Pieces.{Piece, piece, TakesAll, StopsIn}
 use Rattle.hyb_outside.specs.SinkSeen.{SinkSeen}
 use Rattle.f77_ast.specs.declared.program.Program.{Program}
 use Rattle.f77_ast.specs.declared.refusal.Refusal.{Refusal}
-use Rattle.f77_meaning.specs.Run.{Run, End, Ended, Faulted, Spent, sequential_run}
+use Rattle.f77_meaning.specs.Run.{Run, Shown, Line, End, Ended, Faulted, Spent, sequential_run}
 use Rattle.hybrid_top.specs.Command.{RunRequest}
 use Rattle.f77_front.specs.Front.{front_of}
 use Rattle.hybrid_top.specs.Reading.{IsWhole, IsTooLong}
@@ -16,14 +16,14 @@ use Rattle.hybrid_top.specs.StatusText.{status_text}
 use Rattle.hybrid_top.specs.declared.status.Status.{Status}
 use Rattle.hybrid_top.specs.declared.status.Status.TheVariants as status
 
--- the lines that are printed, and the status at the end
+-- what is shown, and the status at the end
 pub record Answer : Type 0 where
-  pub lines : List (List ℕ)
+  pub shown : List Shown
   pub status : Status
 
 -- an answer before the first step
 abbrev pub stops : Status → Answer
-stops status = record { lines = []; status = status }
+stops status = record { shown = []; status = status }
 
 -- the status of a run's end
 abbrev pub status_of : End → Status
@@ -33,7 +33,7 @@ status_of Spent = status.StepsSpent
 
 -- the answer of a run
 abbrev pub ran : Run → Answer
-ran run = record { lines = run.lines; status = status_of run.end }
+ran run = record { shown = run.shown; status = status_of run.end }
 
 -- the answers of a command, by what the files hold before it: each has its cause. The bytes of a file are known
 -- where its content is told; where it isn't, they are whatever was read.
@@ -64,21 +64,25 @@ pub data IsAnswer (old new : FilesSeen) (request : Option RunRequest) (answer : 
 abbrev pub line_piece : List ℕ → Piece
 line_piece line = piece Out (line ++ 10 ∷ [])
 
+-- the piece of what a run shows
+abbrev pub shown_piece : Shown → Piece
+shown_piece (Line text) = line_piece text
+
 -- the piece of a status line; Done has none, nor has a fault of writing
 abbrev pub status_pieces : Status → List Piece
 status_pieces status.Done = []
 status_pieces status.WriteFault = []
 status_pieces s = piece Notes (status_text s) ∷ []
 
--- the sinks take all lines of the answer and its status is the result, or they stop in one of its lines and the
+-- the sinks take all that the answer shows and its status is the result, or they stop in one piece of it and the
 -- result is a fault of writing
 pub data Shows (answer : Answer) (result : Status) (old new : SinkName → SinkSeen) : Type 0 where
-  shown : result ≡ answer.status → TakesAll (map line_piece answer.lines) old new → Shows answer result old new
-  stopped : result ≡ status.WriteFault → StopsIn (map line_piece answer.lines) old new → Shows answer result old new
+  shown : result ≡ answer.status → TakesAll (map shown_piece answer.shown) old new → Shows answer result old new
+  stopped : result ≡ status.WriteFault → StopsIn (map shown_piece answer.shown) old new → Shows answer result old new
 
--- all pieces of an answer: the lines to `out`, and then the status line to `notes`
+-- all pieces of an answer: what it shows, and then the status line to `notes`
 abbrev pub pieces_of : Answer → List Piece
-pieces_of answer = map line_piece answer.lines ++ status_pieces answer.status
+pieces_of answer = map shown_piece answer.shown ++ status_pieces answer.status
 
 -- the sinks take all pieces of the answer and its status is the result, or they stop in one of its pieces and the
 -- result is a fault of writing
@@ -86,7 +90,7 @@ pub data Gives (answer : Answer) (result : Status) (old new : SinkName → SinkS
   whole : result ≡ answer.status → TakesAll (pieces_of answer) old new → Gives answer result old new
   cut : result ≡ status.WriteFault → StopsIn (pieces_of answer) old new → Gives answer result old new
 
--- a command shows the lines of one of its answers
+-- a command shows what one of its answers does
 pub record Performed (request : Option RunRequest) (files_old files_new : FilesSeen) (result : Status) (old new : SinkName → SinkSeen) : Type 0 where
   pub answer : Answer
   pub is_answer : IsAnswer files_old files_new request answer

@@ -8,8 +8,8 @@ use Rattle.hyb_outside.specs.Pieces.{share_of, OneRose}
 use Rattle.hyb_outside.specs.SinkSeen.{SinkSeen, Takes}
 use Rattle.f77_ast.specs.declared.program.Program.{Program}
 use Rattle.f77_ast.specs.declared.refusal.Refusal.{Refusal}
-use Rattle.f77_meaning.specs.Run.{Ended, sequential_run}
-use Rattle.hybrid_top.specs.Answer.{status_of, line_piece}
+use Rattle.f77_meaning.specs.Run.{Ended, Shown, sequential_run}
+use Rattle.hybrid_top.specs.Answer.{status_of, shown_piece}
 use Rattle.hybrid_top.specs.Command.{RunRequest}
 use Rattle.f77_front.specs.Front.{front_of}
 use Rattle.hybrid_top.specs.Reading.{IsWhole, IsTooLong, file_limit}
@@ -55,9 +55,9 @@ RefusedComes request old new result = (r : RunRequest) (bytes : List ℕ) (refus
 abbrev pub RefusedOnly : Option RunRequest → FilesSeen → Status → Type 0
 RefusedOnly request old result = (refusal : Refusal) → result ≡ status.Refused refusal → (r : RunRequest) × (bytes : List ℕ) × (request ≡ Some r) × IsWhole (old.content r.program) bytes × (front_of bytes ≡ Err refusal)
 
--- the bytes of some lines, each with its LF
-abbrev pub lines_text : List (List ℕ) → List ℕ
-lines_text lines = share_of Out (map line_piece lines)
+-- the bytes of what is shown to `out`: each line with its LF
+abbrev pub lines_text : List Shown → List ℕ
+lines_text shown = share_of Out (map shown_piece shown)
 
 -- a result of a run
 abbrev pub is_of_run : Status → Bool
@@ -79,7 +79,7 @@ pub record IsRun (request : Option RunRequest) (old : FilesSeen) (result : Statu
   pub schedule : List ℕ
   pub schedule_is : IsWhole (old.content asked.schedule) schedule
   pub status : result ≡ status_of (sequential_run program input asked.steps).end
-  pub lines : Takes (lines_text (sequential_run program input asked.steps).lines) out_old out_new
+  pub lines : Takes (lines_text (sequential_run program input asked.steps).shown) out_old out_new
 
 -- Done, Faulted and StepsSpent are those of a sequential run, and `out` took its lines and nothing else
 abbrev pub RunOnly : Option RunRequest → FilesSeen → Status → SinkSeen → SinkSeen → Type 0

@@ -12,15 +12,14 @@ use Rattle.hybrid_top.specs.declared.machine.Machine.{Machine}
 -- a machine can take its next step
 pub record IsReady (m : Machine) : Type 0 where
   pub sound : IsSound m.program
-  pub is_of : IsProcessOf m.program m.process
+  pub is_of : IsProcessOf m.program m.process (text_of m.line)
   pub fits : Fits m.program.layout (values_of m.store)
-  pub line : text_of m.line ≡ []
 
 -- a machine of a program and an input before the first step: its process is at the first executable statement, storage is the
 -- opening one, and nothing of the input has been read
 pub record IsAtStart (program : Program) (input : List ℕ) (m : Machine) : Type 0 where
   pub program_is : m.program ≡ program
-  pub process : process_of m.process ≡ first_process program
+  pub process : process_of m.process (text_of m.line) ≡ first_process program
   pub store : values_of m.store ≡ program.layout.first
   pub unread : left_of m.input ≡ input
   pub ready : IsReady m

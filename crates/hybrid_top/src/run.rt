@@ -2,6 +2,8 @@
 ghost use Rattle.std.specs.Prelude.{◌≡◌};
 ghost use Rattle.hyb_outside.specs.Pieces.{sinks};
 ghost use Rattle.f77_meaning.specs.Run.{run_from};
+ghost use Rattle.f77_io.specs.Input.{left_of};
+ghost use Rattle.f77_io.specs.Line.{text_of};
 ghost use Rattle.f77_machine.specs.Process.{process_of};
 ghost use Rattle.f77_machine.specs.Store.{values_of};
 ghost use Rattle.hybrid_top.specs.Answer.{ran, Shows};
@@ -24,7 +26,7 @@ pub fn run<O: Sink, N: Sink, Q: Sink>(
     order: &mut Q,
 ) -> Status
     requires { IsReady machine }
-    ensures { Shows (ran (run_from machine.program (process_of machine.process) (values_of machine.store) steps)) result
+    ensures { Shows (ran (run_from machine.program (process_of machine.process (text_of machine.line)) (values_of machine.store) (left_of machine.input) steps)) result
         (sinks (O.seen out.old) (N.seen notes.old) (Q.seen order.old))
         (sinks (O.seen out.new) (N.seen notes.new) (Q.seen order.new)) }
 {

@@ -1,49 +1,60 @@
 use Rattle.std.proofs.Common.{◌≡◌, arith}
+use Rattle.f77_io.specs.Line.{text_of}
 use Rattle.f77_machine.specs.Store.{values_of}
 use Rattle.f77_meaning.specs.Run as run
-use Rattle.hybrid_top.proofs.RunLemmas.{came_short, came_empty, came_printed, came_cut, came_ended, came_faulted, came_on}
+use Rattle.hybrid_top.proofs.RunLemmas.{came_printed, came_cut, came_ended, came_faulted, came_on}
 use Rattle.hybrid_top.proofs.ShowLemmas.{shows_stopped}
 use Rattle.hybrid_top.proofs.run.run.Goals as goal
-
-pub finish-requires : goal.finish-requires
-finish-requires g c = came_short c.args.machine.program c.loop-left.process c.step.new.self c.loop-left.store c.step.new.cells c.loop-left.line c.step.new.line c.in-Printed.ensures.next
 
 pub loop-left-preserved-in-Ok : goal.loop-left-preserved-in-Ok
 loop-left-preserved-in-Ok g c = record {
   sound = c.loop-left.invariant.sound;
-  is_of = c.step.ensures.is_of;
+  is_of = rw c.clear.ensures (c.in-Printed.ensures.is_of);
   fits = c.step.ensures.fits;
-  line = c.clear.ensures;
   rest = λ s new t.
       let took = rw (c.text.ensures, c.finish.ensures) at c.in-Ok.ensures.ok in
       c.loop-left.invariant.rest _ _
-      (came_printed c.args.machine.program c.loop-left.process c.step.new.self c.loop-left.store c.step.new.cells c.loop-left.line c.step.new.line c.loop-left.left _ _ _ _ c.loop-left-test.true c.in-Printed.ensures.next took t);
+      (came_printed c.args.machine.program
+      (record { process = c.loop-left.process; text = text_of c.loop-left.line; store = c.loop-left.store; input = c.loop-left.input })
+      (record { process = c.step.new.self; text = text_of c.step.new.line; store = c.step.new.cells; input = c.step.new.input })
+      c.loop-left.left _ _ _ _ c.loop-left-test.true c.in-Printed.ensures.next took (rw c.clear.ensures at t));
 }
 
 pub returns-in-Err : goal.returns-in-Err
 returns-in-Err g c =
     let cut = rw (c.text.ensures, c.finish.ensures) at c.in-Err.ensures.failed in
     c.loop-left.invariant.rest _ _
-    (came_cut c.args.machine.program c.loop-left.process c.step.new.self c.loop-left.store c.step.new.cells c.loop-left.line c.step.new.line c.loop-left.left _ _ c.loop-left-test.true c.in-Printed.ensures.next cut)
+    (came_cut c.args.machine.program
+    (record { process = c.loop-left.process; text = text_of c.loop-left.line; store = c.loop-left.store; input = c.loop-left.input })
+    (record { process = c.step.new.self; text = text_of c.step.new.line; store = c.step.new.cells; input = c.step.new.input })
+    c.loop-left.left _ _ c.loop-left-test.true c.in-Printed.ensures.next cut)
 
 pub returns-in-Ended : goal.returns-in-Ended
 returns-in-Ended g c =
     c.loop-left.invariant.rest _ _
-    (came_ended c.args.machine.program c.loop-left.process c.step.new.self c.loop-left.store c.step.new.cells c.loop-left.line c.step.new.line c.loop-left.left _ c.loop-left-test.true c.in-Ended.ensures.next)
+    (came_ended c.args.machine.program
+    (record { process = c.loop-left.process; text = text_of c.loop-left.line; store = c.loop-left.store; input = c.loop-left.input })
+    (record { process = c.step.new.self; text = text_of c.step.new.line; store = c.step.new.cells; input = c.step.new.input })
+    c.loop-left.left _ c.loop-left-test.true c.in-Ended.ensures.next)
 
 pub returns-in-Faulted : goal.returns-in-Faulted
 returns-in-Faulted g c =
     c.loop-left.invariant.rest _ _
-    (came_faulted c.args.machine.program c.loop-left.process c.step.new.self c.loop-left.store c.step.new.cells c.loop-left.line c.step.new.line c.in-Faulted.fault c.line-at.result c.loop-left.left _ c.loop-left-test.true (c.line-at.ensures c.args.machine.program c.loop-left.invariant.is_of) c.in-Faulted.ensures.next)
+    (came_faulted c.args.machine.program
+    (record { process = c.loop-left.process; text = text_of c.loop-left.line; store = c.loop-left.store; input = c.loop-left.input })
+    (record { process = c.step.new.self; text = text_of c.step.new.line; store = c.step.new.cells; input = c.step.new.input })
+    c.in-Faulted.fault c.line-at.result c.loop-left.left _ c.loop-left-test.true (c.line-at.ensures c.args.machine.program (text_of c.loop-left.line) c.loop-left.invariant.is_of) c.in-Faulted.ensures.next)
 
 pub loop-left-preserved-in-Read : goal.loop-left-preserved-in-Read
 loop-left-preserved-in-Read g c = record {
   sound = c.loop-left.invariant.sound;
   is_of = c.step.ensures.is_of;
   fits = c.step.ensures.fits;
-  line = came_empty c.args.machine.program c.loop-left.process c.step.new.self c.loop-left.store c.step.new.cells c.loop-left.line c.step.new.line _ c.in-Read.ensures.next (λ e. cc) c.loop-left.invariant.line;
   rest = λ s new t. c.loop-left.invariant.rest _ _
-      (came_on c.args.machine.program c.loop-left.process c.step.new.self c.loop-left.store c.step.new.cells c.loop-left.line c.step.new.line _ c.loop-left.left _ _ _ c.loop-left-test.true tt c.in-Read.ensures.next t);
+      (came_on c.args.machine.program
+      (record { process = c.loop-left.process; text = text_of c.loop-left.line; store = c.loop-left.store; input = c.loop-left.input })
+      (record { process = c.step.new.self; text = text_of c.step.new.line; store = c.step.new.cells; input = c.step.new.input })
+      _ c.loop-left.left _ _ _ c.loop-left-test.true tt c.in-Read.ensures.next t);
 }
 
 pub loop-left-preserved-in-Wrote : goal.loop-left-preserved-in-Wrote
@@ -51,9 +62,11 @@ loop-left-preserved-in-Wrote g c = record {
   sound = c.loop-left.invariant.sound;
   is_of = c.step.ensures.is_of;
   fits = c.step.ensures.fits;
-  line = came_empty c.args.machine.program c.loop-left.process c.step.new.self c.loop-left.store c.step.new.cells c.loop-left.line c.step.new.line _ c.in-Wrote.ensures.next (λ e. cc) c.loop-left.invariant.line;
   rest = λ s new t. c.loop-left.invariant.rest _ _
-      (came_on c.args.machine.program c.loop-left.process c.step.new.self c.loop-left.store c.step.new.cells c.loop-left.line c.step.new.line _ c.loop-left.left _ _ _ c.loop-left-test.true tt c.in-Wrote.ensures.next t);
+      (came_on c.args.machine.program
+      (record { process = c.loop-left.process; text = text_of c.loop-left.line; store = c.loop-left.store; input = c.loop-left.input })
+      (record { process = c.step.new.self; text = text_of c.step.new.line; store = c.step.new.cells; input = c.step.new.input })
+      _ c.loop-left.left _ _ _ c.loop-left-test.true tt c.in-Wrote.ensures.next t);
 }
 
 pub loop-left-preserved : goal.loop-left-preserved
@@ -61,9 +74,11 @@ loop-left-preserved g c = record {
   sound = c.loop-left.invariant.sound;
   is_of = c.step.ensures.is_of;
   fits = c.step.ensures.fits;
-  line = came_empty c.args.machine.program c.loop-left.process c.step.new.self c.loop-left.store c.step.new.cells c.loop-left.line c.step.new.line _ c.in-Inner.ensures.next (λ e. cc) c.loop-left.invariant.line;
   rest = λ s new t. c.loop-left.invariant.rest _ _
-      (came_on c.args.machine.program c.loop-left.process c.step.new.self c.loop-left.store c.step.new.cells c.loop-left.line c.step.new.line _ c.loop-left.left _ _ _ c.loop-left-test.true tt c.in-Inner.ensures.next t);
+      (came_on c.args.machine.program
+      (record { process = c.loop-left.process; text = text_of c.loop-left.line; store = c.loop-left.store; input = c.loop-left.input })
+      (record { process = c.step.new.self; text = text_of c.step.new.line; store = c.step.new.cells; input = c.step.new.input })
+      _ c.loop-left.left _ _ _ c.loop-left-test.true tt c.in-Inner.ensures.next t);
 }
 
 pub returns : goal.returns

@@ -1,9 +1,9 @@
-use Rattle.std.proofs.Common.{◌≡◌, []}
 use Rattle.hyb_outside.specs.declared.pieces.SinkName.{SinkName}
 use Rattle.hyb_outside.specs.Pieces.{sinks}
 use Rattle.hyb_outside.specs.SinkSeen.{SinkSeen}
 use Rattle.f77_meaning.specs.Run.{run_from}
 use Rattle.f77_meaning.specs.Sound.{IsSound, Fits}
+use Rattle.f77_io.specs.Input.{left_of}
 use Rattle.f77_io.specs.Line.{text_of}
 use Rattle.f77_machine.specs.Process.{process_of, IsProcessOf}
 use Rattle.f77_machine.specs.Store.{values_of}
@@ -15,13 +15,12 @@ use Rattle.hybrid_top.proofs.run.run.Given as goal
 abbrev pub invariant-loop-left : goal.invariant-loop-left
 invariant-loop-left g l = record {
   sound : IsSound l.program;
-  is_of : IsProcessOf l.program l.process;
+  is_of : IsProcessOf l.program l.process (text_of l.line);
   fits : Fits l.program.layout (values_of l.store);
-  line : text_of l.line ≡ [];
   rest : (s : Status) (new : SinkName → SinkSeen) →
-      Shows (ran (run_from l.program (process_of l.process) (values_of l.store) l.left)) s
+      Shows (ran (run_from l.program (process_of l.process (text_of l.line)) (values_of l.store) (left_of l.input) l.left)) s
       (sinks (g.O.Sink.seen l.out) (g.N.Sink.seen l.notes) (g.Q.Sink.seen l.order)) new →
-      Shows (ran (run_from l.initial.program (process_of l.initial.process) (values_of l.initial.store) l.initial.left)) s
+      Shows (ran (run_from l.initial.program (process_of l.initial.process (text_of l.initial.line)) (values_of l.initial.store) (left_of l.initial.input) l.initial.left)) s
       (sinks (g.O.Sink.seen l.initial.out) (g.N.Sink.seen l.initial.notes) (g.Q.Sink.seen l.initial.order)) new;
 }
 
