@@ -4,7 +4,7 @@
     python3 bench/loops.py
 
 It takes crates/hybrid/out/hybrid, which `rt ci` and `rt run` leave, and prints nothing but a line where that is
-missing. A triple loop, a table of powers and a loop of a million trips are timed beside the same loops in python3; sources
+missing. A triple loop, a table of powers and a loop of a million trips are timed beside the same loops in python3; PRINTs of arrays beside those of half as many elements; sources
 at the limits are timed beside sources of half their size, so that a time that grows with the square shows as a ratio of 4.
 """
 
@@ -164,6 +164,19 @@ def many_blocks(count):
     return [line for n in rows for line in ("IF (I .EQ. 1) THEN", f"GOTO {n}", "ENDIF", f"{n}|CONTINUE")] + ["END"]
 
 
+def array_items(folder):
+    """PRINT of an array: the time of one is to grow with its elements, not with their square."""
+    times = []
+    for count in (1_200, 2_400, 4_800):
+        lines = [f"INTEGER A({count})", "DO 10 I = 1, 200", "10|PRINT *, A", "END"]
+        seconds, result = least(3, lambda: run(folder, lines))
+        if result != [0, (" 0" * count + "\n") * 200, ""]:
+            sys.exit(f"PRINT of {count} elements: exit code {result[0]}, notes {result[2]!r}")
+        times.append(seconds)
+    ratios = ", ".join(f"{after / before:.1f}" for before, after in zip(times, times[1:]))
+    print(f"PRINT of an array of 4,800 elements, 200 times: {times[-1]:.3f} s; 1,200, 2,400, 4,800: times {ratios}")
+
+
 def at_the_limits(folder):
     rows = [
         ("names, accepted and run", many_names, 0, ""),
@@ -197,6 +210,7 @@ def main():
         return
     with tempfile.TemporaryDirectory() as folder:
         loops(folder)
+        array_items(folder)
         at_the_limits(folder)
 
 
