@@ -9,8 +9,8 @@ use Rattle.f77_meaning.specs.Assign.{Written, written_of}
 use Rattle.f77_meaning.specs.Demand.{Demand, gives, wants, calls, fails, setting_of}
 use Rattle.f77_meaning.specs.Do.{Begun, begun_of, active_from, turned}
 use Rattle.f77_meaning.specs.Print.{Printed, asks, enters, whole, stops, printed_of}
-use Rattle.f77_meaning.specs.Process.{ActiveLoop, Frame, Process, Stage, at_statement, at_inner, at_entry, at_increment, come_to, is_blocked, listed_of}
-use Rattle.f77_meaning.specs.Step.{Move, reading, writing, taking, moving, printing, ending, failing, past, past_do, past_increment, past_statement, unless_blocked, loop_of_do, print_move, write_move, begin_move, do_move, increment_move, statement_move, listed_move, stage_move, frames_move, is_terminal}
+use Rattle.f77_meaning.specs.Process.{ActiveLoop, Frame, Stage, at_statement, at_inner, at_entry, at_increment, come_to, is_blocked, listed_of}
+use Rattle.f77_meaning.specs.Step.{Move, reading, writing, taking, moving, printing, ending, failing, past, past_do, past_increment, past_statement, unless_blocked, loop_of_do, print_move, write_move, do_move, increment_move, statement_move, listed_move, stage_move, frames_move, is_terminal}
 
 -- the last of some frames has no answers
 abbrev pub IsFresh : List Frame → Type 0

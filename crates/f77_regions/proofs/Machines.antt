@@ -1,7 +1,6 @@
 -- The processes of a program are a machine, and what the laws on regions say of its loops.
 use Rattle.std.proofs.Common.{ℕ, ℤ, pos, List, [], ◌∷◌, ◌≡◌, ◌⊎◌, inl, inr, true, false, Bool, Option, None, Some, if◌then◌else◌, refl, sym, ap, subst, ◌∙◌}
 use Rattle.hyb_base.proofs.Reductions.{operators_reduce}
-use Rattle.hyb_base.specs.Reduction.{apply}
 use Rattle.hyb_base.specs.declared.ops.RedOp.{RedOp}
 use Rattle.f77_ast.specs.declared.fault.Fault.TheVariants.{DoVariableWritten}
 use Rattle.f77_ast.specs.declared.program.Program.{Program}
