@@ -167,7 +167,7 @@ module _ (s : Setting) (v : Ref) where
         then (if is_v v o.left then Some (held_first o.op (number_demand s o.right)) else option_map (held_next o.op (number_demand s o.right)) (inner o.left))
         else None
 
-    -- a chain of so many operators at most, whose leftmost operand is v
+    -- a chain of `operators` operators at most, whose leftmost operand is v
     abbrev pub chain_within : ℕ → Expr → Option Held
     chain_within zero expr = None
     chain_within (suc operators) expr = chain_by (chain_within operators) (operation_of expr)
@@ -212,7 +212,7 @@ accumulate op address value (v ∷ rest) = gives (record { address = address; va
 abbrev pub accumulated : Located → Accumulation → List ℤ → Demand Written
 accumulated place a answers = and_then (a.held answers) (λ value rest. accumulate a.op place.address value rest)
 
--- the one or the other
+-- what an assignment writes, plainly or as an accumulation
 abbrev pub written_by : Option Accumulation → Located → Evaluation → List ℤ → Demand Written
 written_by None place value answers = plainly place value answers
 written_by (Some a) place value answers = accumulated place a answers

@@ -60,7 +60,7 @@ abbrev pub cell_value : (address : ℕ) → List ℤ → Demand ℤ
 cell_value address [] = wants address None
 cell_value address (value ∷ rest) = gives value rest
 
--- the values of so many addresses in turn
+-- the values of `count` addresses, in turn
 abbrev pub cells_from : (address count : ℕ) → List ℤ → Demand (List ℤ)
 cells_from address zero answers = gives [] answers
 cells_from address (suc count) answers = and_then (cell_value address answers) (λ first rest. and_then (cells_from (address + 1) count rest) (λ others more. gives (first ∷ others) more))
@@ -72,7 +72,6 @@ pub record Located : Type 0 where
   pub len : ℕ
 
 -- how many addresses a value of a type takes: one of INTEGER and LOGICAL, and one for each character of CHARACTER
--- (section 4.1)
 abbrev pub width : Kind → (len : ℕ) → ℕ
 width kind.Integer len = 1
 width kind.Logical len = 1

@@ -73,7 +73,7 @@ module _ (s : Setting) where
       and_then (parameters_of control answers) (λ m rest.
       and_then (located (entity_in s.layout.entities s.unit control.variable) None rest) (λ variable more. begun_with variable.address m more))
 
--- the loop of a DO statement at a place of a unit, which becomes active: its range goes on after the DO statement
+-- the loop of a DO statement at a place of a unit, which becomes active: its range begins after the DO statement
 abbrev pub active_from : (at : ℕ) → Loop → Begun → ActiveLoop
 active_from at loop begun = record {
   ordinal = loop.ordinal;

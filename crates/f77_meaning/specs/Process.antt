@@ -1,4 +1,4 @@
--- A process: where control is in a program, and what is known there (ANSI X3.9-1978, sections 7.1, 11.10, 12.8.2.3 and 15.9).
+-- A process: where control is in a program, and what is known there (ANSI X3.9-1978, sections 3.6, 11.10, 12.8.2.3 and 15.9).
 use Rattle.std.specs.Prelude.{ℕ, ◌==◌, ◌||◌, ℤ, Bool, List, [], ◌∷◌, ◌++◌, Option, None}
 use Rattle.std.specs.List.{list_any}
 use Rattle.f77_ast.specs.declared.program.Listed.{Listed}
@@ -7,14 +7,14 @@ use Rattle.f77_structure.specs.Units.{listing_of, first_executable, main_unit, s
 use Rattle.f77_structure.specs.Values.{Value}
 
 -- what a dummy argument is bound to (section 15.9.3): to a place, by its first address, the number of the region of the
--- actual argument, and the length of a character; to a value; or to a value that isn't known, of a character of this
--- length, which only a run has that leaves some values out
+-- actual argument, and the length that the dummy has, its own or the actual's where it is `(*)`; to a value; or to a value
+-- that isn't known, which only a run has that leaves some values out, and this length
 pub data Binding : Type 0 where
   placed : (address region length : ℕ) → Binding
   valued : (value : Value) → Binding
   unvalued : (length : ℕ) → Binding
 
--- a dimension of a dummy array, as its bounds were read at entry; none where the upper one is `*` (section 5.1.2)
+-- a dimension of a dummy array, as its bounds were read at entry; its upper bound is none where it is `*` (section 5.1.2)
 pub record Dimension : Type 0 where
   pub low : ℤ
   pub high : Option ℤ
@@ -43,19 +43,19 @@ pub record ActiveImplied : Type 0 where
   pub items : ℕ
 
 -- what of its statement a frame is at: the statement itself; the one that its logical IF holds; the entry of its unit, where
--- array bounds are read; or, where the statement is the terminal statement of its innermost active loop and has taken its
--- steps, the incrementation processing of that loop
+-- array bounds are read; or the incrementation processing of its innermost active loop, whose terminal statement it is: its
+-- steps are taken, or left out where an inner DO has count 0
 pub data Stage : Type 0 where
   at_statement : Stage
   at_inner : Stage
   at_entry : Stage
   at_increment : Stage
 
--- an active unit: its number; the place of its statement, and the stage; what its dummies are bound to, in their order, and
--- the dimensions of its dummy arrays, as far as they are read; its active loops and implied DOs, the innermost one first; how
--- many items of the statement are done (at the entry: arrays whose bounds are read), how many addresses of what it is at
--- (elements of an array, addresses that an assignment writes); and the answers to the reads of the item or statement at which
--- it is
+-- an active unit: its number; the place of its statement, and the stage; what its dummies are bound to, in their order; the
+-- dimensions of its dummy arrays, in the order of its dummies, as far as their bounds are read; its active loops and implied
+-- DOs, the innermost one first; how many items of the statement are done (at the entry: arrays whose bounds are read), how
+-- many elements of an array item are, or addresses of a left side that is written; and the answers to the reads of the item or
+-- statement at which it is
 pub record Frame : Type 0 where
   pub unit : ℕ
   pub at : ℕ
@@ -107,7 +107,7 @@ entering unit at stage bindings = record {
 abbrev pub with_answer : ℤ → Frame → Frame
 with_answer answer frame = record frame { answers = frame.answers ++ answer ∷ [] }
 
--- a frame with so many items and addresses done, which has these answers to the reads of what it is at
+-- a frame with `items` items and `cells` elements or addresses done, which has these answers to the reads of what it is at
 abbrev pub with_done : (items cells : ℕ) → List ℤ → Frame → Frame
 with_done items cells answers frame = record frame { items = items; cells = cells; answers = answers }
 

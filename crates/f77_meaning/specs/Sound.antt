@@ -14,9 +14,9 @@ use Rattle.f77_meaning.specs.Do.{has_64_bits, value_after}
 use Rattle.f77_meaning.specs.Process.{ActiveLoop, Frame, Process, Stage, at_statement, at_inner, at_entry, at_increment, listed_of}
 use Rattle.f77_meaning.specs.Step.{is_terminal, loop_of_do}
 
--- what every accepted program satisfies: it has a main unit, each unit ends with END and has no other, each statement has a
--- meaning, its expressions too, and its references name entities, these lie in storage, its loops are those of its DO
--- statements, their ranges nest, and its statements are counted with 32 bits
+-- what every accepted program satisfies: there is a main unit; END is the last statement of each unit, and no other; each
+-- statement has a meaning, with its expressions and references; all entities lie in storage; the loops are those of the DO
+-- statements; ranges nest; and statements are counted with 32 bits
 pub record IsSound (program : Program) : Type 0 where
   pub main : IsSome (slice_get program.units (main_unit program.units))
   pub ended : All (λ unit. EndsWithEnd unit.listing) program.units

@@ -102,8 +102,9 @@ module _ (frame : Frame) (below : List Frame) (line : List ℕ) where
   increment_move (loop ∷ outer) = writing loop.variable (next_value loop) None (Some (Turned loop.ordinal)) (past_increment (loop ∷ outer) frame ∷ below)
 
   module _ (program : Program) where
-    -- a statement: CONTINUE moves control (section 11.11), END ends the run, as there is no unit but the main one yet (section
-    -- 11.14). The others have no meaning yet or are no steps, and no process of an accepted program comes to one
+    -- a statement: an assignment, a DO statement and a PRINT as above; CONTINUE moves control (section 11.11); END ends the run,
+    -- as there is no unit but the main one yet (section 11.14). The others have no meaning yet, or take no step, and no process of
+    -- an accepted program is at one
     abbrev pub statement_move : Stmt → Move
     statement_move (stmt.Assign target value) = write_move (written_of (setting_of program.layout frame) target value frame.answers)
     statement_move (stmt.Do terminal control) = do_move (loop_of_do program frame.unit frame.at) (begun_of (setting_of program.layout frame) control frame.answers)
