@@ -3,6 +3,7 @@ pub mod Arrays
 pub mod Assigned
 pub mod Begun
 pub mod Cells
+pub mod DoStatements
 pub mod Expressions
 pub mod Kept
 pub mod Loops
