@@ -14,7 +14,7 @@ use Rattle.f77_meaning.specs.Event.{writes, faults}
 use Rattle.f77_meaning.specs.Print.{Printed, asks, enters, whole, stops, printed_of}
 use Rattle.f77_meaning.specs.Process.{ActiveLoop, Frame, Process, is_blocked}
 use Rattle.f77_meaning.specs.Step.{Move, writing, ending, do_move, done_by, event, event_of, increment_move, loop_of_do, move_of, past_do, past_increment, past_statement, print_move, resumed_by, statement_move, unless_blocked, write_move}
-use Rattle.f77_turns.specs.Turns.{Turn, Beginning, LeadsTo, TurnsAreMarked, BeginningsAreMarked, TurnsMarked, BeginningsMarked}
+use Rattle.f77_turns.specs.Turns.{Turn, Beginning, LeadsTo, BeginningsAreMarked, TurnsAreMarked}
 use Rattle.f77_turns.proofs.Positions.{Position, nowhere, stating, turning, Stating, position, move_of_statement, move_of_turn}
 
 -- a move that is no marked write
@@ -125,13 +125,13 @@ module _ (program : Program) (p : Process) where
   beginning_of ordinal (by_turn t e) = absurd (cc)
   beginning_of ordinal (by_do b e) = (b, cc)
 
-pub turns_marked : TurnsMarked
+pub turns_marked : TurnsAreMarked
 turns_marked program p = record {
   marked = λ t. ap event_of (turns program p t);
   turns = λ address value by ordinal w. turn_of program p ordinal (marked_at program p address value by (Turned ordinal) (position program p) w);
 }
 
-pub beginnings_marked : BeginningsMarked
+pub beginnings_marked : BeginningsAreMarked
 beginnings_marked program p = record {
   marked = λ b. ap event_of (begins program p b);
   leads = λ b. leads program p b.begun.variable b.begun.first None (Some (Began b.loop.ordinal)) (past_do (active_from b.frame.at b.loop b.begun) b.frame ∷ b.below) (begins program p b);

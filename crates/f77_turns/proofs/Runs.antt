@@ -55,14 +55,14 @@ module _ (program : Program) (sound : IsSound program) where
       one_step program p store (source_line (listed_at program p)) (on_input (move_of program p) input) is
       (leads_on_input program (move_of program p) input (leads program p.frames p.line sound is.frames is.line))
 
-  pub compose : (k : ℕ) (p : Process) (store : List ℤ) (input : List ℕ) → IsOf program p → Fits program.layout store → Stops program p store input k ⊎ GoesOn program p store input k
-  compose zero p store input is fits = inr (record { process = p; left = input; spends = refl; is_of = is; fits = fits; same = λ n. nothing n })
+  pub compose : (k : ℕ) (p : Process) (store : List ℤ) (input : List ℕ) → IsOf program p → Stops program p store input k ⊎ GoesOn program p store input k
+  compose zero p store input is = inr (record { process = p; left = input; spends = refl; is_of = is; fits = λ fits. fits; same = λ n. nothing n })
     where
       nothing : (n : ℕ) → run_from program p store input (0 + n) ≡ prefixed [] 0 (run_from program p store input n)
       nothing n =
           let e : 0 + n ≡ n = omega arith in
           ap (run_from program p store input) e ∙ sym (none_before (run_from program p store input n))
-  compose (suc k) p store input is fits = by (compose k) (begins p store input is)
+  compose (suc k) p store input is = by (compose k) (begins p store input is)
     where
       left : List ℕ
       left = input_after (move_of program p) input
@@ -76,9 +76,9 @@ module _ (program : Program) (sound : IsSound program) where
       unfolds : (n : ℕ) → run_from program p store input (suc k + n) ≡ step (go (k + n))
       unfolds n = ap (run_from program p store input) (more k n)
 
-      by : ((next : Process) (new : List ℤ) (rest : List ℕ) → IsOf program next → Fits program.layout new → Stops program next new rest k ⊎ GoesOn program next new rest k) → OneStep program p store step → Stops program p store input (suc k) ⊎ GoesOn program p store input (suc k)
+      by : ((next : Process) (new : List ℤ) (rest : List ℕ) → IsOf program next → Stops program next new rest k ⊎ GoesOn program next new rest k) → OneStep program p store step → Stops program p store input (suc k) ⊎ GoesOn program p store input (suc k)
       by later (last run ends is_last) = inl (record { ends = subst (λ r. r.end ≢ Spent) (sym (is_last (go k))) ends; same = λ n. unfolds n ∙ is_last (go (k + n)) ∙ sym (is_last (go k)) })
-      by later (leads_to shown next new is_next long is_step) = then (later next new left is_next (record { cells = long ∙ fits.cells }))
+      by later (leads_to shown next new is_next long is_step) = then (later next new left is_next)
         where
           rest : Run
           rest = run_from program next new left k
@@ -96,11 +96,11 @@ module _ (program : Program) (sound : IsSound program) where
             left = g.left;
             spends = ap (λ r. r.end) here ∙ g.spends;
             is_of = g.is_of;
-            fits = subst (λ r. Fits program.layout r.store) (sym here) g.fits;
+            fits = λ fits. subst (λ r. Fits program.layout r.store) (sym here) (g.fits (record { cells = long ∙ fits.cells }));
             same = λ n.
                 unfolds n ∙ is_step (go (k + n)) ∙ ap (prefixed shown 1) (g.same n) ∙ prefixed_twice shown rest.shown k (run_from program g.process rest.store g.left n)
                 ∙ sym (ap (λ r. prefixed r.shown (suc k) (run_from program g.process r.store g.left n)) here);
           })
 
 pub runs_compose : RunsCompose
-runs_compose program p store input k sound is fits = compose program sound k p store input is fits
+runs_compose program p store input k sound is = compose program sound k p store input is

@@ -6,7 +6,7 @@ use Rattle.f77_meaning.specs.Process.{Process}
 use Rattle.f77_meaning.specs.Sound.{IsOf, IsSound}
 use Rattle.f77_meaning.specs.Step.{event}
 
--- the address of an event, where it has one, is one of storage of so many
+-- the address of an event, where it has one, is below `total`
 abbrev pub LiesBelow : (total : ℕ) → Event → Type 0
 LiesBelow total (reads address by) = address < total
 LiesBelow total (writes address value by control) = address < total

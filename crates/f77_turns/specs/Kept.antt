@@ -19,12 +19,12 @@ pub record IsAtPrint (program : Program) (p : Process) : Type 0 where
   pub items : List Item
   pub is_print : listed.stmt ≡ Print items
 
--- a step of a process leaves its line, whatever the answer
+-- a step of a process keeps its line, whatever the answer to a read
 pub record KeepsLine (program : Program) (p : Process) : Type 0 where
   pub resumed : (answer : ℤ) → (resumed program p answer).line ≡ p.line
   pub done : (once_done program p).line ≡ p.line
 
--- a step changes the line so far only where the last frame is at a PRINT
+-- a step changes the line only where the last frame is at a PRINT
 abbrev pub OnlyPrintsChangeLines : Type 0
 OnlyPrintsChangeLines = (program : Program) (p : Process) → KeepsLine program p ⊎ IsAtPrint program p
 
@@ -32,10 +32,11 @@ OnlyPrintsChangeLines = (program : Program) (p : Process) → KeepsLine program 
 abbrev pub settings_of : Program → Process → List Setting
 settings_of program p = map (setting_of program.layout) p.frames
 
--- a step changes unit, bindings and bounds of no frame, whatever the answer; the entry of a unit is no step yet
+-- a step of a process keeps them, whatever the answer to a read
 pub record KeepsSettings (program : Program) (p : Process) : Type 0 where
   pub resumed : (answer : ℤ) → settings_of program (resumed program p answer) ≡ settings_of program p
   pub done : settings_of program (once_done program p) ≡ settings_of program p
 
+-- a step changes unit, bindings and bounds of no frame: entering a unit is no step yet
 abbrev pub StepsKeepSettings : Type 0
 StepsKeepSettings = (program : Program) (p : Process) → KeepsSettings program p

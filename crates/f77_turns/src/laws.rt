@@ -2,7 +2,7 @@
 ghost use Rattle.f77_turns.specs.Composed.{RunsCompose};
 ghost use Rattle.f77_turns.specs.Kept.{OnlyPrintsChangeLines, StepsKeepSettings};
 ghost use Rattle.f77_turns.specs.Ordinals.{DoStatementsHaveLoops, ActiveLoopsAreOfProgram, ActiveLoopsDiffer};
-ghost use Rattle.f77_turns.specs.Turns.{TurnsMarked, BeginningsMarked, TurnsClear, IterationsBeginAlike};
+ghost use Rattle.f77_turns.specs.Turns.{TurnsAreMarked, BeginningsAreMarked, TurnsClear, IterationsBeginAlike};
 ghost use Rattle.f77_turns.specs.Addresses.{EventsLieInStorage};
 
 /// A law: a run of k steps has come to its end, so that every longer run is the same; or every longer run is what the k steps show,
@@ -39,13 +39,13 @@ pub fn law_of_ordinals()
 /// A law: the event is a write marked with the turn of an ordinal exactly where the last frame does the incrementation processing
 /// (ANSI X3.9-1978, section 11.10.7) of a loop with that ordinal. The loop's variable takes its next value.
 pub fn law_of_turns()
-    ensures { TurnsMarked }
+    ensures { TurnsAreMarked }
 {}
 
 /// A law: the event is a write marked with the beginning of an ordinal exactly where the last frame is at the DO statement of the loop with
 /// that ordinal, its values are known (ANSI X3.9-1978, section 11.10.3) and its variable is that of no active loop.
 pub fn law_of_beginnings()
-    ensures { BeginningsMarked }
+    ensures { BeginningsAreMarked }
 {}
 
 /// A law: a turn leaves of its frame nothing but unit, bindings, bounds and loops, one with an iteration more ended or without it,
