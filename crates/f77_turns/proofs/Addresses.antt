@@ -1,8 +1,7 @@
 -- Each address of an event lies in storage.
-use Rattle.std.proofs.Common.{◌≡◌, ℕ, suc, ◌<◌, ℤ, Bool, true, false, List, [], ◌∷◌, All, length, Option, None, Some, IsTrue, refl, sym, ap, subst, ◌∙◌, slice_get}
+use Rattle.std.proofs.Common.{◌≡◌, ℕ, ◌<◌, Bool, true, false, List, ◌∷◌, All, length, Option, None, Some, IsTrue, refl, sym, subst, ◌∙◌, slice_get}
 use Rattle.std.proofs.lemmas.Option.{get_or_from_slice_get, slice_get_within}
 use Rattle.std.specs.Option.{option_and_then}
-use Rattle.f77_ast.specs.declared.program.Layout.{Layout}
 use Rattle.f77_ast.specs.declared.program.Listed.{Listed}
 use Rattle.f77_ast.specs.declared.program.Loop.{Loop}
 use Rattle.f77_ast.specs.declared.program.Program.{Program}
@@ -17,7 +16,7 @@ use Rattle.f77_meaning.specs.Do.{Begun, active_from, begun_of}
 use Rattle.f77_meaning.specs.Print.{Printed, asks, enters, whole, stops, printed_of}
 use Rattle.f77_meaning.specs.Process.{Frame, Process, is_blocked}
 use Rattle.f77_meaning.specs.Sound.{AreActive, AreFrames, IsOf, IsSound}
-use Rattle.f77_meaning.specs.Step.{Move, writing, ending, do_move, event_of, increment_move, loop_of_do, move_of, past_do, past_statement, print_move, statement_move, unless_blocked, write_move}
+use Rattle.f77_meaning.specs.Step.{Move, writing, do_move, event_of, loop_of_do, move_of, past_do, past_statement, print_move, statement_move, unless_blocked, write_move}
 use Rattle.f77_turns.specs.Addresses.{EventsLieInStorage, LiesBelow}
 use Rattle.f77_turns.specs.Turns.{Turn}
 use Rattle.f77_turns.proofs.Assigned.{WritesIn, written_asks}

@@ -1,9 +1,9 @@
 -- What assignments with a meaning read and write lies in storage.
-use Rattle.std.proofs.Common.{◌≡◌, ℕ, zero, suc, ◌<◌, ◌&&◌, ℤ, Bool, true, false, cond, List, [], ◌∷◌, length, Option, None, Some, IsTrue, refl, sym, ap, subst, ◌∙◌}
+use Rattle.std.proofs.Common.{◌≡◌, ℕ, zero, suc, ◌<◌, ◌&&◌, ℤ, Bool, true, false, cond, List, [], ◌∷◌, length, Option, None, Some, IsTrue, sym, subst}
 use Rattle.std.specs.Option.{option_map, option_or}
 use Rattle.hyb_base.specs.declared.ops.RedOp.{RedOp}
 use Rattle.hyb_base.specs.declared.ops.RedOp.TheVariants as red
-use Rattle.f77_ast.specs.declared.expr.Expr.{Expr, out-Expr, roll-Expr, roll-out-Expr}
+use Rattle.f77_ast.specs.declared.expr.Expr.{Expr, out-Expr, roll-out-Expr}
 use Rattle.f77_ast.specs.declared.expr.Expr.TheFolds.{fold-roll-Expr, map-Expr}
 use Rattle.f77_ast.specs.declared.expr.Expr.TheOpen.{Expr-F, Part-F, Ref-F}
 use Rattle.f77_ast.specs.declared.expr.Expr.TheOpen as layer
@@ -13,8 +13,8 @@ use Rattle.f77_ast.specs.declared.expr.Ref.{Ref}
 use Rattle.f77_structure.specs.HasMeaning.{expr_has_meaning, meaning_part, meaning_ref, meaning_step, ref_has_meaning}
 use Rattle.f77_structure.specs.Storage.{IsStorage}
 use Rattle.f77_structure.specs.Values.{is_arithmetic}
-use Rattle.f77_meaning.specs.Assign.{Accumulation, Held, Operation, Written, accumulate, accumulated, accumulates_by, accumulation_of, chain_by, chain_of, chain_within, exchanged, held_first, held_last, held_next, is_v, joined_by, last_by, last_with, layer_operation, operation_of, operators_at_left, plainly, stands_in_product, stands_in_sum, written_by, written_of}
-use Rattle.f77_meaning.specs.Demand.{gives, and_then, Evaluation, Located, Setting, demand_of, location_of, number_demand, number_of}
+use Rattle.f77_meaning.specs.Assign.{Accumulation, Held, Operation, Written, accumulate, accumulates_by, accumulation_of, chain_by, chain_of, chain_within, exchanged, held_first, held_last, held_next, is_v, joined_by, last_by, last_with, layer_operation, operation_of, operators_at_left, stands_in_product, stands_in_sum, written_by, written_of}
+use Rattle.f77_meaning.specs.Demand.{gives, and_then, Located, Setting, demand_of, location_of, number_demand, number_of}
 use Rattle.f77_turns.proofs.Cells.{Any, Asks, InStorage, both, then_asks}
 use Rattle.f77_turns.proofs.Expressions.{demand_asks, location_asks, number_asks}
 

@@ -1,5 +1,5 @@
 -- What DO statements with a meaning read and write lies in storage.
-use Rattle.std.proofs.Common.{◌≡◌, ℕ, ◌<◌, ◌&&◌, ℤ, pos, Bool, true, false, cond, List, length, Option, None, Some, IsTrue, refl}
+use Rattle.std.proofs.Common.{◌≡◌, ℕ, ◌<◌, ◌&&◌, ℤ, Bool, true, false, cond, List, length, Option, None, Some, IsTrue}
 use Rattle.f77_ast.specs.Entity.{entity_in}
 use Rattle.f77_ast.specs.declared.expr.Expr.{Expr}
 use Rattle.f77_ast.specs.declared.fault.Fault.TheVariants.{DoRange, ZeroIncrement}

@@ -1,5 +1,5 @@
 -- What an evaluation asks for lies in storage.
-use Rattle.std.proofs.Common.{◌≡◌, ℕ, zero, suc, ◌+◌, ◌<◌, ◌≤◌, ◌+ℤ◌, ◌&&◌, ℤ, pos, negsuc, Bool, true, false, cond, List, [], ◌∷◌, Option, None, Some, refl, sym, ap, subst, ◌∙◌, arith}
+use Rattle.std.proofs.Common.{◌≡◌, ℕ, zero, suc, ◌+◌, ◌<◌, ◌≤◌, ◌+ℤ◌, ◌&&◌, ℤ, pos, negsuc, Bool, true, false, cond, List, [], ◌∷◌, Option, None, Some, refl, arith}
 use Rattle.std.specs.Int.{int_gap}
 use Rattle.std.specs.Option.{option_map}
 use Rattle.std.specs.Prelude.{int_le}
@@ -8,8 +8,8 @@ use Rattle.f77_ast.specs.declared.expr.Kind.TheVariants as kind
 use Rattle.f77_ast.specs.declared.program.Entity.{Entity}
 use Rattle.f77_ast.specs.declared.specification.Bound.{Bound}
 use Rattle.f77_structure.specs.HasMeaning.{is_integer_variable, is_integer_vector}
-use Rattle.f77_structure.specs.Storage.{LiesIn, Span, address_of_element, address_of_variable, extent_by, extent_of, is_scalar, is_vector, is_within, offset_by, offset_of, span_of, start_of, storage_units_by, storage_units_of, vector_span}
-use Rattle.f77_structure.specs.Values.{Operated, yields, breaks, means_nothing, Value, is_integer_kind, value_of_units}
+use Rattle.f77_structure.specs.Storage.{LiesIn, address_of_element, address_of_variable, extent_by, is_scalar, is_vector, is_within, offset_by, offset_of, span_of, start_of, storage_units_by, vector_span}
+use Rattle.f77_structure.specs.Values.{Operated, yields, breaks, means_nothing, is_integer_kind, value_of_units}
 use Rattle.f77_meaning.specs.Demand.{Demand, gives, wants, calls, fails, and_then, cell_value, cells_from, Located, operated, place_by, place_of, value_at, width}
 
 -- a value of which nothing is said
@@ -92,7 +92,7 @@ within_extent (negsuc a) (negsuc b) (pos c) e = grind (arith, e)
 within_extent (negsuc a) (negsuc b) (negsuc c) e = grind (arith, e)
 
 module _ (total : ℕ) (entity : Entity) (lies : LiesIn total entity) where
-  offset_asks : (e : is_integer_kind entity.kind ≡ true) (s : ℤ) (rest : List ℤ) (span : Option Span) → start_of entity + extent_by span ≤ total → Asks total (InStorage total) (place_by entity (option_map (λ offset. start_of entity + offset) (offset_by span s)) rest)
+  offset_asks : (e : is_integer_kind entity.kind ≡ true) (s : ℤ) (rest : List ℤ) (span : Option _) → start_of entity + extent_by span ≤ total → Asks total (InStorage total) (place_by entity (option_map (λ offset. start_of entity + offset) (offset_by span s)) rest)
   offset_asks e s rest None h = tt
   offset_asks e s rest (Some span) h = by (is_within span s) refl
     where

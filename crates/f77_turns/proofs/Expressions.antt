@@ -9,10 +9,10 @@ use Rattle.f77_ast.specs.declared.expr.Expr.TheViews.{roll-Expr, roll-Ref}
 use Rattle.f77_ast.specs.declared.expr.Part.{Part}
 use Rattle.f77_ast.specs.declared.expr.Ref.{Ref}
 use Rattle.f77_ast.specs.declared.program.Entity.{Entity}
-use Rattle.f77_structure.specs.HasMeaning.{expr_has_meaning, is_integer_variable, is_integer_vector, is_whole, meaning_part, meaning_ref, meaning_step, names_integer, ref_has_meaning}
+use Rattle.f77_structure.specs.HasMeaning.{expr_has_meaning, is_integer_variable, is_integer_vector, meaning_part, meaning_ref, meaning_step, names_integer, ref_has_meaning}
 use Rattle.f77_structure.specs.Storage.{IsStorage, LiesIn, address_of_element}
-use Rattle.f77_structure.specs.Values.{Value, binary_of, is_arithmetic, is_sign, unary_of}
-use Rattle.f77_meaning.specs.Demand.{gives, and_then, Evaluation, Located, Location, Setting, demand_of, expr_step, located, location_of, number_demand, number_of, operated, part_step, place_by, ref_step, value_at}
+use Rattle.f77_structure.specs.Values.{binary_of, is_arithmetic, is_sign, unary_of}
+use Rattle.f77_meaning.specs.Demand.{gives, and_then, Evaluation, Location, Setting, demand_of, expr_step, located, location_of, number_demand, number_of, operated, part_step, place_by, ref_step, value_at}
 use Rattle.f77_meaning.proofs.Begins.{entity_lies}
 use Rattle.f77_turns.proofs.Cells.{Any, Asks, InStorage, both, element_asks, operator_asks, then_asks, value_asks, variable_asks}
 

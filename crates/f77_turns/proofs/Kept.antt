@@ -1,5 +1,5 @@
 -- What a step keeps: the line but at a PRINT, and unit, bindings and bounds of each frame.
-use Rattle.std.proofs.Common.{◌≡◌, ◌⊎◌, inl, inr, ℕ, suc, ◌+◌, ◌==◌, ℤ, Bool, true, false, cond, List, [], ◌∷◌, map, Option, None, Some, refl, sym, ap, subst, ◌∙◌}
+use Rattle.std.proofs.Common.{◌≡◌, ◌⊎◌, inl, inr, ℕ, suc, ◌+◌, ◌==◌, ℤ, Bool, true, false, cond, List, ◌∷◌, map, Option, None, Some, refl, sym, ap, subst}
 use Rattle.std.specs.Prelude.{nat_lt}
 use Rattle.f77_ast.specs.declared.program.Loop.{Loop}
 use Rattle.f77_ast.specs.declared.program.Program.{Program}
@@ -11,7 +11,7 @@ use Rattle.f77_meaning.specs.Do.{Begun, active_from, begun_of, turned}
 use Rattle.f77_meaning.specs.Print.{Printed, asks, enters, whole, stops, printed_of}
 use Rattle.f77_meaning.specs.Process.{ActiveLoop, Frame, Process, at_statement, at_increment, come_to, is_blocked}
 use Rattle.f77_meaning.specs.Step.{Move, reading, writing, taking, moving, printing, ending, failing, do_move, done_by, increment_move, is_terminal, loop_of_do, move_of, past, past_do, past_increment, past_statement, print_move, resumed_by, statement_move, unless_blocked, write_move}
-use Rattle.f77_turns.specs.Kept.{IsAtPrint, KeepsLine, KeepsSettings, OnlyPrintsChangeLines, StepsKeepSettings}
+use Rattle.f77_turns.specs.Kept.{IsAtPrint, KeepsLine, OnlyPrintsChangeLines, StepsKeepSettings}
 use Rattle.f77_turns.proofs.Positions.{Position, nowhere, stating, turning, Stating, position}
 
 -- a move that leaves this line

@@ -1,5 +1,5 @@
 -- The loops of a program, found by their DO statements and by their ordinals.
-use Rattle.std.proofs.Common.{◌≡◌, ℕ, suc, ◌+◌, ◌-◌, ◌==◌, Bool, true, false, cond, List, [], ◌∷◌, All, Option, Some, drop, refl, sym, ap, subst, ◌∙◌, slice_get, eqb-true}
+use Rattle.std.proofs.Common.{◌≡◌, ℕ, suc, ◌+◌, ◌-◌, ◌==◌, Bool, true, false, cond, List, [], ◌∷◌, All, Some, drop, refl, sym, ap, subst, ◌∙◌, slice_get, eqb-true}
 use Rattle.std.proofs.lemmas.List.Elements.{All-cons, All-nil}
 use Rattle.f77_ast.proofs.Loops.{loop_at-numbered}
 use Rattle.f77_ast.specs.Loop.{IsNumbered, loop_at}

@@ -1,5 +1,5 @@
 -- The marks of loops on writes.
-use Rattle.std.proofs.Common.{◌≡◌, ℕ, ℤ, Bool, true, false, List, ◌∷◌, Option, None, Some, refl, sym, ap, subst, ◌∙◌}
+use Rattle.std.proofs.Common.{◌≡◌, ℕ, ℤ, Bool, true, false, List, ◌∷◌, Option, None, Some, refl, sym, ap, ◌∙◌}
 use Rattle.hyb_base.specs.declared.ops.RedOp.{RedOp}
 use Rattle.f77_ast.specs.declared.program.Loop.{Loop}
 use Rattle.f77_ast.specs.declared.program.Program.{Program}
@@ -10,10 +10,10 @@ use Rattle.f77_ast.specs.declared.stmt.Stmt.{Stmt, Assign, Continue, Do, Print}
 use Rattle.f77_meaning.specs.Assign.{Written, written_of}
 use Rattle.f77_meaning.specs.Demand.{Demand, gives, wants, calls, fails, setting_of}
 use Rattle.f77_meaning.specs.Do.{Begun, active_from, begun_of, next_value}
-use Rattle.f77_meaning.specs.Event.{writes, faults}
+use Rattle.f77_meaning.specs.Event.{writes}
 use Rattle.f77_meaning.specs.Print.{Printed, asks, enters, whole, stops, printed_of}
-use Rattle.f77_meaning.specs.Process.{ActiveLoop, Frame, Process, is_blocked}
-use Rattle.f77_meaning.specs.Step.{Move, writing, ending, do_move, done_by, event, event_of, increment_move, loop_of_do, move_of, past_do, past_increment, past_statement, print_move, resumed_by, statement_move, unless_blocked, write_move}
+use Rattle.f77_meaning.specs.Process.{Frame, Process, is_blocked}
+use Rattle.f77_meaning.specs.Step.{Move, writing, ending, do_move, done_by, event, event_of, loop_of_do, move_of, past_do, past_increment, past_statement, print_move, resumed_by, statement_move, unless_blocked, write_move}
 use Rattle.f77_turns.specs.Turns.{Turn, Beginning, LeadsTo, BeginningsAreMarked, TurnsAreMarked}
 use Rattle.f77_turns.proofs.Positions.{Position, nowhere, stating, turning, Stating, position, move_of_statement, move_of_turn}
 

@@ -1,10 +1,9 @@
 -- The active loops of a process have different ordinals.
-use Rattle.std.proofs.Common.{◌≡◌, ◌≢◌, ℕ, zero, suc, ◌+◌, ◌-◌, ◌<◌, ◌≤◌, Bool, true, false, List, [], ◌∷◌, ◌++◌, All, length, map, Some, refl, sym, ap, subst, ◌∙◌, arith, slice_get}
+use Rattle.std.proofs.Common.{◌≡◌, ◌≢◌, ℕ, zero, suc, ◌+◌, ◌-◌, ◌<◌, Bool, true, false, List, [], ◌∷◌, ◌++◌, All, length, map, Some, refl, sym, ap, ◌∙◌, arith}
 use Rattle.std.proofs.lemmas.List.Elements.{All-append, All-cons, All-nil}
 use Rattle.std.proofs.lemmas.Option.{slice_get_within}
 use Rattle.std.specs.Prelude.{nat_lt}
 use Rattle.f77_ast.specs.Loop.{loop_at}
-use Rattle.f77_ast.specs.declared.program.Loop.{Loop}
 use Rattle.f77_ast.specs.declared.program.Program.{Program}
 use Rattle.f77_ast.specs.declared.program.Unit.{Unit as ProgramUnit}
 use Rattle.f77_structure.specs.Ranges.{IsDo}
@@ -89,9 +88,10 @@ module _ (program : Program) (sound : IsSound program) where
   joined_differ : (unit low high : ℕ) (ns : List ℕ) → AllDiffer ns → ((loop : ActiveLoop) → IsLoopOf program unit loop → All (λ m. m ≢ loop.ordinal) ns) → (active : List ActiveLoop) → AreActive program unit low high active → AllDiffer (map (λ l. l.ordinal) active ++ ns)
   joined_differ unit low high ns differ others [] a = differ
   joined_differ unit low high ns differ others (loop ∷ outer) a =
-      let x : IsLoopOf program unit loop = is_loop_of program sound unit low high loop a.0 in
-      (All-append (λ m. m ≢ loop.ordinal) (map (λ l. l.ordinal) outer) ns (outer_differ unit (loop.from - 1) loop.last loop x (omega (arith, x.from)) outer a.1) (others loop x),
-      joined_differ unit (loop.from - 1) loop.last ns differ others outer a.1)
+      let x : IsLoopOf program unit loop = is_loop_of program sound unit low high loop a.0 in (
+        All-append (λ m. m ≢ loop.ordinal) (map (λ l. l.ordinal) outer) ns (outer_differ unit (loop.from - 1) loop.last loop x (omega (arith, x.from)) outer a.1) (others loop x),
+        joined_differ unit (loop.from - 1) loop.last ns differ others outer a.1,
+      )
 
   frames_differ : (frames : List Frame) → AreFrames program frames → AllDiffer (ordinals_of frames)
   frames_differ [] are = tt

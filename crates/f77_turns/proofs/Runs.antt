@@ -4,7 +4,7 @@ use Rattle.std.specs.Prelude.{slice_index_or, slice_set}
 use Rattle.f77_ast.specs.declared.program.Program.{Program}
 use Rattle.f77_structure.specs.Units.{source_line}
 use Rattle.f77_meaning.specs.Process.{Process, listed_at}
-use Rattle.f77_meaning.specs.Run.{Run, End, Shown, Line, Ended, Faulted, Spent, stopped, prefixed, after, run_from}
+use Rattle.f77_meaning.specs.Run.{Run, Shown, Line, Ended, Faulted, Spent, stopped, prefixed, after, run_from}
 use Rattle.f77_meaning.specs.Sound.{Fits, IsOf, IsSound}
 use Rattle.f77_meaning.specs.Step.{Move, reading, writing, taking, moving, printing, ending, failing, move_of, resumed_by}
 use Rattle.f77_meaning.specs.StepOutcome.{on_input, input_after}

@@ -1,13 +1,12 @@
 -- What a turn leaves of its frame.
-use Rattle.std.proofs.Common.{◌≡◌, ℕ, suc, ◌+◌, ◌<◌, Bool, true, false, cond, List, ◌∷◌, None, Some, refl, sym, ap, subst, ◌∙◌, arith}
+use Rattle.std.proofs.Common.{◌≡◌, ℕ, suc, ◌+◌, ◌<◌, Bool, true, false, cond, List, ◌∷◌, None, Some, refl, subst, arith}
 use Rattle.std.specs.Prelude.{nat_lt}
-use Rattle.f77_ast.specs.declared.program.Program.{Program}
 use Rattle.f77_ast.specs.declared.step.Control.TheVariants.{Turned}
 use Rattle.f77_meaning.specs.Do.{next_value, turned}
-use Rattle.f77_meaning.specs.Process.{ActiveLoop, Frame, Process, at_statement, at_increment, come_to}
-use Rattle.f77_meaning.specs.Sound.{AreActive, AreFrames, IsOf}
+use Rattle.f77_meaning.specs.Process.{ActiveLoop, Frame, at_statement, at_increment, come_to}
+use Rattle.f77_meaning.specs.Sound.{AreActive, AreFrames}
 use Rattle.f77_meaning.specs.Step.{is_terminal, past, past_increment}
-use Rattle.f77_turns.specs.Turns.{Turn, IsAfterTurn, goes_on, is_over, TurnLeads, TurnsClear}
+use Rattle.f77_turns.specs.Turns.{IsAfterTurn, goes_on, is_over, TurnsClear}
 use Rattle.f77_turns.proofs.Marks.{leads, turns}
 
 -- where the last iteration has ended, the frame goes on without the loop
