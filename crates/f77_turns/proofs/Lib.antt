@@ -13,3 +13,4 @@ pub mod Positions
 pub mod Printed
 pub mod Runs
 pub mod Turns
+pub mod Worked
