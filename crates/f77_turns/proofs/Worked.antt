@@ -1,9 +1,9 @@
 -- Cases worked by hand: a loop from 5 down by 2, of three iterations, as the only one of a frame; and ordinals.
-use Rattle.std.proofs.Common.{◌≡◌, ℕ, ℤ, pos, negsuc, List, [], ◌∷◌, None, Some, refl, arith}
+use Rattle.std.proofs.Common.{◌≡◌, ℕ, pos, negsuc, List, [], ◌∷◌, None, Some, refl, arith}
 use Rattle.f77_ast.specs.declared.program.Program.{Program}
 use Rattle.f77_ast.specs.declared.step.Control.TheVariants.{Turned}
 use Rattle.f77_meaning.specs.Event.{writes}
-use Rattle.f77_meaning.specs.Process.{ActiveLoop, Frame, Process, at_increment, at_statement, come_to, entering}
+use Rattle.f77_meaning.specs.Process.{ActiveLoop, Frame, at_increment, at_statement, come_to, entering}
 use Rattle.f77_meaning.specs.Step.{event, once_done, process_with}
 use Rattle.f77_turns.specs.Ordinals.{AllDiffer, ordinals_of}
 use Rattle.f77_turns.specs.Turns.{at_iteration}

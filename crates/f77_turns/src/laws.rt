@@ -43,13 +43,14 @@ pub fn law_of_turns()
 {}
 
 /// A law: the event is a write marked with the beginning of an ordinal exactly where the last frame is at the DO statement of the loop with
-/// that ordinal, its values are known (ANSI X3.9-1978, section 11.10.3) and its variable is that of no active loop.
+/// that ordinal, its values are known (ANSI X3.9-1978, section 11.10.3) and its variable is that of no active DO or implied DO.
+/// The loop's variable takes its first value.
 pub fn law_of_beginnings()
     ensures { BeginningsAreMarked }
 {}
 
-/// A law: a turn leaves of its frame nothing but unit, bindings, bounds and loops, one with an iteration more ended or without it,
-/// and leaves the frames below.
+/// A law: a turn leaves of its frame nothing but unit, bindings, bounds and loops, the innermost one with one iteration more ended, or
+/// without it after its last iteration; the frames below and the line stay.
 pub fn law_of_frames_after_turns()
     ensures { TurnsClear }
 {}

@@ -1,4 +1,5 @@
-//! How the loops of a program begin, turn and end in the steps of its processes: laws that executions of loops are cut into iterations by.
+//! Laws on the loops of a program in the steps of its processes: how a loop begins, turns and ends. With them an execution of a loop is
+//! cut into its iterations.
 //!
 //! The definitions are in `specs/`, the laws in [`laws`].
 #![tactic(auto)]
