@@ -1,0 +1,80 @@
+-- The array that an expression names lies in storage.
+use Rattle.std.proofs.Common.{◌≡◌, List, Bool, true, false, cond, length, Option, None, Some, refl, sym, subst}
+use Rattle.f77_ast.specs.Entity.{entity_in}
+use Rattle.f77_ast.specs.declared.expr.Expr.{Expr}
+use Rattle.f77_ast.specs.declared.expr.Expr.TheFolds.{fold-roll-Expr, fold-roll-Ref, ind-Expr, map-Expr, map-Ref}
+use Rattle.f77_ast.specs.declared.expr.Expr.TheOpen.{Expr-F, Part-F, Ref-F}
+use Rattle.f77_ast.specs.declared.expr.Expr.TheOpen as layer
+use Rattle.f77_ast.specs.declared.expr.Expr.TheViews.{roll-Expr, roll-Ref}
+use Rattle.f77_ast.specs.declared.expr.Part.{Part}
+use Rattle.f77_ast.specs.declared.expr.Ref.{Ref}
+use Rattle.f77_ast.specs.declared.program.Entity.{Entity}
+use Rattle.f77_structure.specs.Arrays.{array_named, array_of_ref, array_part, array_ref, array_step, if_array, named_alone}
+use Rattle.f77_structure.specs.Storage.{IsStorage, LiesIn, is_vector}
+use Rattle.f77_meaning.specs.Demand.{Setting}
+use Rattle.f77_turns.proofs.Expressions.{found_lies}
+
+module _ (s : Setting) (storage : IsStorage s.layout) where
+  -- an entity, where there is one, lies in storage
+  abbrev pub IfLies : Option Entity → Type 0
+  IfLies None = Unit {0}
+  IfLies (Some entity) = LiesIn (length s.layout.first) entity
+
+  array_lies : (found : Option Entity) → ((entity : Entity) → found ≡ Some entity → LiesIn (length s.layout.first) entity) → IfLies (if_array found)
+  array_lies None lies = tt
+  array_lies (Some entity) lies = by (is_vector entity.bounds)
+    where
+      by : (b : Bool) → IfLies (cond b (Some entity) None)
+      by true = lies entity refl
+      by false = tt
+
+  alone_lies : (found : Option Entity) (args : Option (List (Option Entity))) (part : Option (Unit {0})) → ((entity : Entity) → found ≡ Some entity → LiesIn (length s.layout.first) entity) → IfLies (named_alone found args part)
+  alone_lies found None None lies = array_lies found lies
+  alone_lies found None (Some part) lies = tt
+  alone_lies found (Some args) part lies = tt
+
+  abbrev ExprLies : Expr → Type 0
+  ExprLies e = IfLies (array_named s.layout s.unit e)
+
+  abbrev PartLies : Part → Type 0
+  PartLies part = Unit {0}
+
+  abbrev RefLies : Ref → Type 0
+  RefLies r = IfLies (array_of_ref s.layout s.unit r)
+
+  abbrev SomeExpr : Type 0
+  SomeExpr = (e : Expr) × ExprLies e
+
+  abbrev SomePart : Type 0
+  SomePart = (p : Part) × PartLies p
+
+  abbrev SomeRef : Type 0
+  SomeRef = (r : Ref) × RefLies r
+
+  of_layer : (z : Expr-F Expr Part Ref) → IfLies (array_step (map-Expr Expr Part Ref (Option Entity) (Unit {0}) (Option Entity) (array_named s.layout s.unit) (λ p. tt) (array_of_ref s.layout s.unit) z)) → ExprLies (roll-Expr z)
+  of_layer z h = subst IfLies (sym (fold-roll-Expr (Option Entity) (Unit {0}) (Option Entity) array_step array_part (array_ref s.layout s.unit) z)) h
+
+  abbrev plain_expr : Expr-F SomeExpr SomePart SomeRef → Expr-F Expr Part Ref
+  plain_expr = map-Expr SomeExpr SomePart SomeRef Expr Part Ref (λ e. e.0) (λ p. p.0) (λ r. r.0)
+
+  expr_layer : (y : Expr-F SomeExpr SomePart SomeRef) → ExprLies (roll-Expr (plain_expr y))
+  expr_layer (layer.Int value) = of_layer (layer.Int value) tt
+  expr_layer (layer.Truth value) = of_layer (layer.Truth value) tt
+  expr_layer (layer.Chars text) = of_layer (layer.Chars text) tt
+  expr_layer (layer.Ref r) = of_layer (layer.Ref r.0) r.1
+  expr_layer (layer.Unary op x) = of_layer (layer.Unary op x.0) tt
+  expr_layer (layer.Binary op x y) = of_layer (layer.Binary op x.0 y.0) tt
+  expr_layer (layer.Paren x) = of_layer (layer.Paren x.0) tt
+
+  ref_layer : (z : Ref-F Expr Part Ref) → RefLies (roll-Ref z)
+  ref_layer z =
+      let r : Ref-F (Option Entity) (Unit {0}) (Option Entity) = map-Ref Expr Part Ref (Option Entity) (Unit {0}) (Option Entity) (array_named s.layout s.unit) (λ p. tt) (array_of_ref s.layout s.unit) z in
+      subst IfLies (sym (fold-roll-Ref (Option Entity) (Unit {0}) (Option Entity) array_step array_part (array_ref s.layout s.unit) z))
+      (alone_lies (entity_in s.layout.entities s.unit z.name) r.args r.part (found_lies s storage z.name))
+
+  -- the array that an expression names as a whole lies in storage
+  pub named_lies : (e : Expr) → ExprLies e
+  named_lies = ind-Expr ExprLies PartLies RefLies
+      (λ x y is. subst (λ z. ExprLies (roll-Expr z)) is (expr_layer y))
+      (λ x y is. tt)
+      (λ x y is. ref_layer x)

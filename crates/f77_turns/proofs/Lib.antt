@@ -1,0 +1,16 @@
+pub mod Addresses
+pub mod Arrays
+pub mod Assigned
+pub mod Begun
+pub mod Cells
+pub mod DoStatements
+pub mod Expressions
+pub mod Kept
+pub mod Loops
+pub mod Marks
+pub mod Ordinals
+pub mod Positions
+pub mod Printed
+pub mod Runs
+pub mod Turns
+pub mod Worked

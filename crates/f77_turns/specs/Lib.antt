@@ -1,0 +1,5 @@
+pub mod Addresses
+pub mod Composed
+pub mod Kept
+pub mod Ordinals
+pub mod Turns
