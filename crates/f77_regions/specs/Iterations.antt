@@ -21,8 +21,8 @@ ends_iteration ordinal None = false
 ends_iteration ordinal (Some (Began other)) = false
 ends_iteration ordinal (Some (Turned other)) = other == ordinal
 
--- an event as a region of that loop knows it: the write that ends an iteration ends it. An iteration of a closed loop takes no number of
--- the input, prints nothing and doesn't end the run; here a printed line is a move, and a number taken and the end of the run are faults
+-- an event as a region of that loop knows it: the write that ends an iteration ends it. An iteration of a closed loop reads no input,
+-- prints nothing and doesn't end the run; here a printed line is a move, and the others are faults
 abbrev pub event_in : (ordinal : ℕ) → Event → machine.Event RedOp ℤ
 event_in ordinal (reads a by) = machine.reads a by
 event_in ordinal (writes a v by control) = if ends_iteration ordinal control then machine.ends else machine.writes a v by

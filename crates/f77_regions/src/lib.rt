@@ -1,6 +1,6 @@
 //! Iterations of DO loops as processes of the abstract machine of `interleaving`, and what the laws there say of them.
 //!
-//! The read and the write of an accumulation have its operator, so the machine reduces as `f77_meaning` says.
+//! The operators are those of accumulations, with what they give and begin with as `hyb_base` says.
 #![tactic(auto)]
 
 ghost use Rattle.f77_regions.specs.Iterations.{LoopsAreMachines, RegionsHold};

@@ -69,7 +69,10 @@ fn count_names(alloc: Global, others: usize, unit: &[Listed]) -> Result<Counted,
     for listed in unit {
         names.statement(&listed.stmt)?;
         let after = capped(others, names.len());
-        over = sooner(over, refused_if(passes(count, after), listed, Rule::SizeLimit));
+        over = sooner(
+            over,
+            refused_if(passes(count, after), listed, Rule::SizeLimit),
+        );
         count = after;
     }
     Ok(Counted { over, count })

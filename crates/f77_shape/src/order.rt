@@ -9,8 +9,8 @@ use f77_ast::program::Listed;
 use f77_ast::refusal::{Refusal, sooner};
 use f77_ast::rule::Rule;
 use f77_ast::stmt::Stmt;
-use f77_structure::units::is_main;
 use f77_structure::statements::inner_of;
+use f77_structure::units::is_main;
 
 /// The part of a unit in which a statement is: 1 for PROGRAM, SUBROUTINE and FUNCTION, 2 for IMPLICIT and PARAMETER,
 /// 3 for the other declarations, 4 for DATA and executable statements.

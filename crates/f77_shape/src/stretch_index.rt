@@ -6,8 +6,8 @@ ghost use Rattle.f77_shape.specs.StretchIndex.{IsStretchIndex, ends_before, mirr
 ghost use Rattle.f77_shape.specs.Jumps.{is_entered};
 ghost use Rattle.f77_shape.specs.Openers.{opens_behind};
 
-use f77_structure::stretches::{Stretch, holds};
 use crate::openers::openers_of;
+use f77_structure::stretches::{Stretch, holds};
 use hyb_base::no_memory::NoMemory;
 use std::alloc::Global;
 

@@ -129,7 +129,10 @@ impl Pass {
     {
         match self.take(alloc, loops, &one.stmt) {
             Ok(()) => Ok(()),
-            Err(Broken::Rule) => Err(FrontError::Refused(Refusal::new(one.card.line, Rule::LeftOut))),
+            Err(Broken::Rule) => Err(FrontError::Refused(Refusal::new(
+                one.card.line,
+                Rule::LeftOut,
+            ))),
             Err(Broken::NoMemory) => Err(FrontError::NoMemory),
         }
     }

@@ -16,8 +16,8 @@ use crate::mentions::mentioned_in;
 use crate::units::{found_bounds, storage_units_of};
 use f77_ast::entities::Entities;
 use f77_ast::expr::Kind;
-use f77_ast::name::Name;
 use f77_ast::limits::MOST_STORAGE_UNITS;
+use f77_ast::name::Name;
 use f77_ast::program::{Bounds, Entity, Layout, Place, Region, Regions};
 use f77_ast::specification::{Declarator, TypedDeclarator};
 use f77_ast::stmt::Stmt;
@@ -82,12 +82,7 @@ impl Table {
     }
 
     /// Places a new name of `units` cells after the others.
-    fn push(
-        &mut self,
-        name: &Name,
-        bounds: Bounds,
-        units: u32,
-    ) -> Result<(), NoMemory>
+    fn push(&mut self, name: &Name, bounds: Bounds, units: u32) -> Result<(), NoMemory>
         requires absent { entity_in self.old.entities 0 name.now ≡ None }
         requires units { units ≡ storage_units_by bounds }
         requires within { self.old.total + units ≤ most_storage_units }
