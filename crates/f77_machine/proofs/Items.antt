@@ -1,13 +1,24 @@
 -- Items of a line of PRINT.
-use Rattle.std.proofs.Common.{◌≡◌, ℕ, zero, suc, ◌+◌, ◌<◌, ◌≤◌, List, [], ◌∷◌, ◌++◌, length, take, drop, Bool, true, false, None, Some, refl, sym, ap, ◌∙◌, arith, length-append}
+use Rattle.std.proofs.Common.{◌≡◌, ℤ, IsTrue, ◌&&◌, ℕ, zero, suc, ◌+◌, ◌<◌, ◌≤◌, List, [], ◌∷◌, ◌++◌, length, take, drop, get_or, Bool, true, false, None, Some, refl, sym, subst, ap, ◌∙◌, arith, length-append}
+use Rattle.std.specs.List.{list_all}
 use Rattle.std.specs.Prelude.{nat_le, max}
 use Rattle.f77_ast.specs.Limits.{most_line_bytes}
 use Rattle.f77_ast.specs.declared.program.Layout.{Layout}
 use Rattle.f77_ast.specs.declared.stmt.Item.{Item}
 use Rattle.f77_io.specs.Line.{IsPastLimit}
-use Rattle.f77_meaning.specs.Print.{with_text}
-use Rattle.f77_machine.specs.Print.{BeginsWith}
-use Rattle.f77_machine.specs.Reads.{most_reads}
+use Rattle.hyb_base.specs.Decimal.{decimal_of}
+use Rattle.f77_ast.specs.declared.expr.Kind.{Kind}
+use Rattle.f77_ast.specs.declared.expr.Kind.TheVariants.{Integer, Logical, Character}
+use Rattle.f77_ast.specs.declared.program.Entity.{Entity}
+use Rattle.f77_structure.specs.HasMeaning.{is_integer_vector}
+use Rattle.f77_structure.specs.Storage.{is_vector}
+use Rattle.f77_structure.specs.Values.{is_integer_kind, value_of_units}
+use Rattle.f77_meaning.specs.Print.{Printing, Printed, after_elements, ask_element, next_cell, text_of, with_text, within_limit}
+use Rattle.f77_machine.specs.Print.{AsksWithin, BeginsWith}
+use Rattle.f77_machine.specs.declared.print.Printed as machine
+use Rattle.f77_machine.specs.declared.print.Printed.TheVariants.{GoesOn, Asks, Stops}
+use Rattle.f77_machine.proofs.Meanings.{second}
+use Rattle.f77_machine.specs.Reads.{item_reads, most_reads}
 
 -- a text goes into the line where the line isn't past its limit then
 pub text_goes : (line text : List ℕ) → (IsPastLimit line text → ⊥) → with_text line text ≡ Some (line ++ (32 ∷ text))
@@ -53,8 +64,45 @@ begins_along (x ∷ xs) (y ∷ ys) (z ∷ zs) a b =
     let rest : BeginsWith xs zs = begins_along xs ys zs (record { shorter = omega (arith, a.shorter); same = cc }) (record { shorter = omega (arith, b.shorter); same = cc }) in
     record { shorter = omega (arith, rest.shorter); same = ap (λ ws. x ∷ ws) rest.same ∙ cc }
 
+-- an item needs no more than the most of all
+pub most_of : (layout : Layout) (unit place : ℕ) (items : List Item) (item : Item) → place < length items → item ≡ get_or items place item → item_reads layout unit item ≤ most_reads layout unit items
+most_of layout unit place [] item h e = absurd (omega (arith, h))
+most_of layout unit zero (first ∷ items) item h e =
+    let same : item ≡ first = e in
+    let needs : item_reads layout unit item ≡ item_reads layout unit first = ap (item_reads layout unit) same in
+    omega (arith, needs)
+most_of layout unit (suc place) (first ∷ items) item h e = omega (arith, most_of layout unit place items item (omega (arith, h)) e)
+
+-- what holds of all holds of those that are left
+pub all_left : (test : Item → Bool) (place : ℕ) (items : List Item) → IsTrue (list_all test items) → IsTrue (list_all test (drop place items))
+all_left test zero items h = h
+all_left test (suc place) [] h = h
+all_left test (suc place) (item ∷ items) h = all_left test place items (second (test item) (list_all test items) h)
+
 -- no item that is left needs more than the most of all
 pub most_left : (layout : Layout) (unit place : ℕ) (items : List Item) → most_reads layout unit (drop place items) ≤ most_reads layout unit items
 most_left layout unit zero items = omega arith
 most_left layout unit (suc place) [] = omega arith
 most_left layout unit (suc place) (item ∷ items) = omega (arith, most_left layout unit place items)
+
+-- an INTEGER array is of INTEGER
+kind_is : (array : Entity) → IsTrue (is_integer_vector (Some array)) → array.kind ≡ Integer
+kind_is array h = by array.kind (is_vector array.bounds) h
+  where
+    by : (k : Kind) (b : Bool) → IsTrue (is_integer_kind k && b) → k ≡ Integer
+    by Integer b h = refl
+    by Logical b h = absurd (cc)
+    by Character b h = absurd (cc)
+
+-- an element that was read goes into the line, and the next one is asked for
+pub element_goes : (array : Entity) (p : Printing) (number : ℤ) (rest : List ℤ) (line : List ℕ) (go : Printing → Printed) → IsTrue (is_integer_vector (Some array)) → with_text p.line (decimal_of number) ≡ Some line → after_elements array (number ∷ rest) p go ≡ ask_element array (next_cell p line) go
+element_goes array p number rest line go means e =
+    ap (λ k. within_limit (with_text p.line (text_of (value_of_units k (number ∷ [])))) (λ more. ask_element array (next_cell p more) go)) (kind_is array means)
+    ∙ ap (λ o. within_limit o (λ more. ask_element array (next_cell p more) go)) e
+
+-- what is asked within some needs is asked within greater ones
+pub asks_within : (total need more : ℕ) (some answers : List ℤ) (r : machine.Printed) → need ≤ more → some ≡ answers → AsksWithin total need some r → AsksWithin total more answers r
+asks_within total need more some answers (GoesOn at) few same a = tt
+asks_within total need more some answers (Asks address by at) few same a =
+    record { within = a.within; room = omega (arith, a.room, few); cells = a.cells; kept = subst (λ xs. BeginsWith xs at.answers.now) same a.kept }
+asks_within total need more some answers (Stops fault) few same a = tt

@@ -7,6 +7,7 @@ pub mod Counts
 pub mod Halves
 pub mod Items
 pub mod Mains
+pub mod Meanings
 pub mod Room
 pub mod Shows
 pub mod Steps

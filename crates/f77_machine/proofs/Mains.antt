@@ -1,9 +1,9 @@
 -- The main unit of a program, where a process begins.
 use Rattle.std.proofs.Common.{◌≡◌, ℕ, zero, suc, ◌+◌, ◌<◌, ◌≤◌, ◌^◌, List, [], ◌∷◌, ◌++◌, All, length, Some, None, IsSome, refl, ap, ◌∙◌, arith, slice_get, length-append}
-use Rattle.std.proofs.lemmas.Option.{slice_get_within}
+use Rattle.std.specs.Option.{option_map_or}
 use Rattle.f77_ast.specs.declared.program.Program.{Program}
 use Rattle.f77_ast.specs.declared.program.Unit.{Unit as ProgramUnit}
-use Rattle.f77_structure.specs.Units.{EndsWithEnd, main_unit, statement_count}
+use Rattle.f77_structure.specs.Units.{EndsWithEnd, listing_of, main_unit, statement_count}
 use Rattle.f77_meaning.specs.Sound.{IsSound}
 
 -- each unit has a statement
@@ -26,3 +26,9 @@ main_within program sound = within_some program.units (main_unit program.units) 
 
 pub main_fits : (program : Program) → IsSound program → main_unit program.units < 2 ^ 32
 main_fits program sound = omega (arith, main_within program sound, units_fit program.units sound.ended, sound.counted)
+
+-- the statements of a unit that is there, or none
+pub listing_found : (units : List ProgramUnit) (u : ℕ) → listing_of units u ≡ option_map_or (λ unit. unit.listing) (slice_get units u) []
+listing_found [] u = refl
+listing_found (first ∷ units) zero = refl
+listing_found (first ∷ units) (suc u) = listing_found units u

@@ -1,9 +1,10 @@
 -- A line that a step prints isn't past its limit.
-use Rattle.std.proofs.Common.{◌≡◌, ℕ, ◌≤◌, ℤ, List, length, Bool, true, false, Option, None, Some, subst, sym, ap, ◌∙◌}
+use Rattle.std.proofs.Common.{◌≡◌, ℕ, ◌≤◌, ℤ, List, ◌∷◌, [], length, Bool, true, false, Option, None, Some, subst, sym, ap, ◌∙◌}
 use Rattle.f77_ast.specs.Limits.{most_line_bytes}
 use Rattle.f77_ast.specs.declared.program.Listed.{Listed}
 use Rattle.f77_ast.specs.declared.program.Loop.{Loop}
 use Rattle.f77_ast.specs.declared.program.Program.{Program}
+use Rattle.f77_ast.specs.declared.step.Stepped.{Stepped}
 use Rattle.f77_ast.specs.declared.step.Stepped.TheVariants.{Printed}
 use Rattle.f77_ast.specs.declared.stmt.Stmt.{Stmt, Assign, Continue, Do, Print}
 use Rattle.f77_io.specs.Number.{Taken, number, none, taken_of}
@@ -100,8 +101,8 @@ short_line ending old h e = absurd (cc)
 short_line (failing fault) old h e = absurd (cc)
 
 -- the line after a step that printed
-pub short_after : (program : Program) (p q : Process) (old new : List ℤ) (count counted : ℕ) (input rest text : List ℕ) → outcome_from Printed q new counted rest text ≡ outcome_of_step program p old count input → length p.line ≤ most_line_bytes → length text ≤ most_line_bytes
-short_after program p q old new count counted input rest text e few =
+pub short_after : (program : Program) (p q : Process) (stepped : Stepped) (old new : List ℤ) (count counted : ℕ) (input rest text : List ℕ) → outcome_from stepped q new counted rest text ≡ outcome_of_step program p old count input → stepped ≡ Printed → length p.line ≤ most_line_bytes → length text ≤ most_line_bytes
+short_after program p q stepped old new count counted input rest text e h few =
     let did : Move = on_input (move_of program p) input in
     subst (λ l. length l ≤ most_line_bytes) (sym (ap (λ n. n.line) e))
-    (short_line did p.line (on_input_short (move_of program p) input (prints_short program p.frames p.line few)) (ap (λ n. n.stepped) e))
+    (short_line did p.line (on_input_short (move_of program p) input (prints_short program p.frames p.line few)) (sym h ∙ ap (λ n. n.stepped) e))

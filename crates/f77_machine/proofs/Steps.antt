@@ -10,17 +10,17 @@ use Rattle.f77_structure.specs.Statements.{terminal_label}
 use Rattle.f77_structure.specs.Units.{listing_of, statement_number}
 use Rattle.f77_structure.proofs.Rising.{counted_in}
 use Rattle.f77_meaning.specs.Process as meaning
-use Rattle.f77_meaning.specs.Process.{listed_of}
-use Rattle.f77_meaning.specs.Sound.{IsOf, IsSound, NumbersFit}
-use Rattle.f77_meaning.specs.Step.{Move, move_of}
+use Rattle.f77_meaning.specs.Process.{first_process, listed_of}
+use Rattle.f77_meaning.specs.Sound.{IsOf, IsSound}
+use Rattle.f77_meaning.specs.Step.{Move, increment_move, listed_move, move_of, stage_move, statement_move}
 use Rattle.f77_meaning.specs.StepOutcome.{answer_of, on_input, outcome_from, outcome_of_step}
-use Rattle.f77_meaning.proofs.Stands.{IsOf-resumed_by, leads, leads_on_input}
-use Rattle.f77_machine.specs.Active.{active_of, actives_of, InnermostNumbersFit}
-use Rattle.f77_machine.specs.Process.{frame_of, HasLoopRoom, IsProcessOf}
-use Rattle.f77_machine.specs.Reads.{statement_reads, AllHaveRoom}
-use Rattle.f77_machine.specs.declared.active.ActiveLoop.{ActiveLoop}
+use Rattle.f77_meaning.proofs.Stands.{IsOf-first, IsOf-resumed_by, leads, leads_on_input}
+use Rattle.f77_machine.specs.Active.{actives_of}
+use Rattle.f77_machine.specs.Process.{frame_of, process_of, stage_of, outcome_of_move, HasLine, HasLoopRoom, IsProcessOf}
+use Rattle.f77_machine.specs.Reads.{statement_reads, HasRoom}
 use Rattle.f77_machine.specs.declared.process.Process.{Process}
-use Rattle.f77_machine.proofs.Actives.{actives_of-append, length-actives_of}
+use Rattle.f77_machine.specs.declared.process.Stage.TheVariants.{Statement, Increment}
+use Rattle.f77_machine.proofs.Actives.{length-actives_of}
 use Rattle.f77_machine.proofs.Room.{fewer_active, no_more_active}
 
 -- after a step of a process of a program comes a process of the program
@@ -35,17 +35,16 @@ pub loops_fit : (program : Program) (p : Process) (text : List ℕ) → IsSound 
 loops_fit program p text sound is_of =
     omega (arith, no_more_active program p.unit p.at p.at (actives_of p.active.items) sound is_of.stands.frames.0.active, length-actives_of p.active.items, is_of.depth)
 
--- the numbers of the innermost active loop are in range
-pub innermost_fits : (program : Program) (p : Process) (text : List ℕ) → IsProcessOf program p text → InnermostNumbersFit (length program.layout.first) p.active.items
-innermost_fits program p text is_of = λ outer innermost e.
-    let active = is_of.stands.frames.0.active in
-    let here = subst (λ loops. meaning_of program p loops) (ap actives_of e ∙ actives_of-append outer innermost) active in
-    here.0.numbers
-  where
-    use Rattle.f77_meaning.specs.Sound.{AreActive}
+-- a step of the incrementation processing
+pub increment_step : (program : Program) (p : Process) (store : List ℤ) (count : ℕ) (input text : List ℕ) → p.stage ≡ Increment → outcome_of_move (increment_move (frame_of p) [] text (actives_of p.active.items)) p store count input text ≡ outcome_of_step program (process_of p text) store count input
+increment_step program p store count input text h =
+    ap (λ stage. outcome_of_move (stage_move (frame_of p) [] text program (stage_of stage)) p store count input text) (sym h)
 
-    meaning_of : Program → Process → List meaning.ActiveLoop → Type 0
-    meaning_of program p loops = AreActive program p.unit p.at p.at loops
+-- a step of a statement
+pub statement_step : (program : Program) (p : Process) (listed : Listed) (store : List ℤ) (count : ℕ) (input text : List ℕ) → Some listed ≡ listed_of program (frame_of p) → p.stage ≡ Statement → outcome_of_move (statement_move (frame_of p) [] text program listed.stmt) p store count input text ≡ outcome_of_step program (process_of p text) store count input
+statement_step program p listed store count input text e h =
+    ap (λ found. outcome_of_move (listed_move (frame_of p) [] text program found) p store count input text) e
+    ∙ ap (λ stage. outcome_of_move (stage_move (frame_of p) [] text program (stage_of stage)) p store count input text) (sym h)
 
 -- at a DO statement there is room for one more
 pub loop_room : (program : Program) (p : Process) (text : List ℕ) (listed : Listed) → IsSound program → IsProcessOf program p text → listed_of program (frame_of p) ≡ Some listed → HasLoopRoom listed.stmt p
@@ -90,3 +89,7 @@ has_meaning program p listed sound e =
 pub number_fits : (program : Program) (p : Process) (listed : Listed) → IsSound program → listed_of program (frame_of p) ≡ Some listed → statement_number program.units p.unit p.at + 1 < 2 ^ 32
 number_fits program p listed sound e =
     omega (arith, counted_in program.units p.unit, slice_get_within (listing_of program.units p.unit) p.at listed e, sound.counted)
+
+-- a process as it is before the first step, with its line and its room, is one of the program
+pub is_of_first : (program : Program) (p : Process) → IsSound program → process_of p [] ≡ first_process program → HasLine program p → HasRoom program p.room → length program.loops ≤ p.depth → IsProcessOf program p []
+is_of_first program p sound first line room depth = record { stands = subst (IsOf program) (sym first) (IsOf-first program sound); line = line; room = room; depth = depth }

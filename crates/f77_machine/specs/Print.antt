@@ -1,5 +1,5 @@
 -- What a PRINT comes to.
-use Rattle.std.specs.Prelude.{◌≡◌, ℕ, ◌+◌, ◌<◌, ◌≤◌, ◌^◌, List, [], length, take, Option, None, Some, Result, Ok, Err}
+use Rattle.std.specs.Prelude.{◌≡◌, ℕ, ℤ, ◌+◌, ◌<◌, ◌≤◌, ◌^◌, List, [], length, take, Option, None, Some, Result, Ok, Err}
 use Rattle.f77_ast.specs.declared.fault.Fault.{Fault}
 use Rattle.f77_meaning.specs.Print.{asks, whole, stops, or_blank}
 use Rattle.f77_meaning.specs.Print as meaning
@@ -33,18 +33,18 @@ pub record BeginsWith {X : Type 0} (whole part : List X) : Type 0 where
   pub shorter : length part ≤ length whole
   pub same : take (length part) whole ≡ part
 
--- an address that is asked for lies in storage of `total` addresses; of the answers by then those that are kept are the first
--- of those before, and fewer than are needed
-pub record IsAsked (total need : ℕ) (before after : Printing) (address : ℕ) : Type 0 where
+-- an address that is asked for lies in storage of `total` addresses; those of the answers that are kept are the
+-- first ones, and fewer than are needed
+pub record IsAsked (total need : ℕ) (answers : List ℤ) (after : Printing) (address : ℕ) : Type 0 where
   pub within : address < total
   pub room : length after.answers.now < need
   pub cells : after.cells < 2 ^ 32
-  pub kept : BeginsWith before.answers.now after.answers.now
+  pub kept : BeginsWith answers after.answers.now
 
-abbrev pub AsksWithin : (total need : ℕ) → (before : Printing) → Printed → Type 0
-AsksWithin total need before (GoesOn after) = Unit {0}
-AsksWithin total need before (Asks address by after) = IsAsked total need before after address
-AsksWithin total need before (Stops fault) = Unit {0}
+abbrev pub AsksWithin : (total need : ℕ) → (answers : List ℤ) → Printed → Type 0
+AsksWithin total need answers (GoesOn after) = Unit {0}
+AsksWithin total need answers (Asks address by after) = IsAsked total need answers after address
+AsksWithin total need answers (Stops fault) = Unit {0}
 
 -- with its next item done
 pub record IsNext (before after : Printing) : Type 0 where

@@ -95,9 +95,10 @@ fn print_value<'a>(
     requires storage { IsStorage layout.now }
     requires meaning { IsTrue (expr_has_meaning layout.now unit expr.now) }
     requires few { at.items + 1 < 2 ^ 64 }
+    requires cells { at.cells < 2 ^ 32 }
     ensures value { (go : meaning.Printing → meaning.Printed) → go_on result (text_of line.new) go
         ≡ after_value (demand_of (setting_in layout.now unit) expr.now at.entry.answers.now) (as_printing at.entry (text_of line.old)) go }
-    ensures asks { AsksWithin (length layout.now.first) (reads_in expr.now) at.entry result }
+    ensures asks { AsksWithin (length layout.now.first) (reads_in expr.now) at.entry.answers.now result }
     ensures follows { Follows at.entry result }
     ensures begins { BeginsWith (text_of line.new) (text_of line.old) }
 {
@@ -117,7 +118,7 @@ fn ask_element<'a>(array: &Entity, at: Printing<'a>) -> Printed<'a>
     requires few { at.items + 1 < 2 ^ 64 }
     requires unread { at.answers.now ≡ [] }
     ensures value { (go : meaning.Printing → meaning.Printed) (line : List ℕ) → go_on result line go ≡ ask_element array.now (as_printing at.entry line) go }
-    ensures asks { AsksWithin (start_of array.now + storage_units_of array.now) 1 at.entry result }
+    ensures asks { AsksWithin (start_of array.now + storage_units_of array.now) 1 at.entry.answers.now result }
     ensures follows { Follows at.entry result }
 {
     if at.cells < storage_units(array) {
@@ -133,10 +134,10 @@ fn print_element<'a>(array: &Entity, at: Printing<'a>, line: &mut Line) -> Print
     requires within { start_of array.now + storage_units_of array.now ≤ 2 ^ 32 }
     requires meaning { IsTrue (is_integer_vector (Some array.now)) }
     requires few { at.items + 1 < 2 ^ 64 }
-    requires cells { at.cells + 1 < 2 ^ 64 }
+    requires cells { at.cells < 2 ^ 32 }
     ensures value { (go : meaning.Printing → meaning.Printed) → go_on result (text_of line.new) go
         ≡ after_elements array.now at.entry.answers.now (as_printing at.entry (text_of line.old)) go }
-    ensures asks { AsksWithin (start_of array.now + storage_units_of array.now) 1 at.entry result }
+    ensures asks { AsksWithin (start_of array.now + storage_units_of array.now) 1 at.entry.answers.now result }
     ensures follows { Follows at.entry result }
     ensures begins { BeginsWith (text_of line.new) (text_of line.old) }
 {
@@ -160,10 +161,10 @@ fn print_item<'a>(
     requires storage { IsStorage layout.now }
     requires meaning { IsTrue (item_has_meaning layout.now unit item.now) }
     requires few { at.items + 1 < 2 ^ 64 }
-    requires cells { at.cells + 1 < 2 ^ 64 }
+    requires cells { at.cells < 2 ^ 32 }
     ensures value { (go : meaning.Printing → meaning.Printed) → go_on result (text_of line.new) go
         ≡ after_item (setting_in layout.now unit) item.now (as_printing at.entry (text_of line.old)) go }
-    ensures asks { AsksWithin (length layout.now.first) (item_reads layout.now unit item.now) at.entry result }
+    ensures asks { AsksWithin (length layout.now.first) (item_reads layout.now unit item.now) at.entry.answers.now result }
     ensures follows { Follows at.entry result }
     ensures begins { BeginsWith (text_of line.new) (text_of line.old) }
 {
@@ -187,9 +188,9 @@ pub fn print_items<'a>(
     requires storage { IsStorage layout.now }
     requires meaning { IsTrue (list_all (item_has_meaning layout.now unit) items.now) }
     requires few { from.items + length items.now < 2 ^ 64 }
-    requires cells { from.cells + 1 < 2 ^ 64 }
+    requires cells { from.cells < 2 ^ 32 }
     ensures value { as_printed result (text_of line.new) ≡ after_items (setting_in layout.now unit) items.now (as_printing from.entry (text_of line.old)) }
-    ensures asks { AsksWithin (length layout.now.first) (most_reads layout.now unit items.now) from.entry result }
+    ensures asks { AsksWithin (length layout.now.first) (most_reads layout.now unit items.now) from.entry.answers.now result }
     ensures begins { BeginsWith (text_of line.new) (text_of line.old) }
 {
     let mut at = from;

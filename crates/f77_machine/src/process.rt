@@ -1,7 +1,9 @@
 //! Processes: one step at a time through the statements of a program.
 ghost use Rattle.std.specs.Prelude.{◌≡◌, ◌+◌, ◌^◌, ◌<◌, ◌≤◌, drop, length, vec_capacity};
+ghost use Rattle.f77_structure.specs.Units.{first_executable, listing_of, main_unit};
 ghost use Rattle.f77_io.specs.Line.{text_of};
 ghost use Rattle.f77_meaning.specs.Print.{or_blank};
+ghost use Rattle.f77_meaning.specs.Sound.{IsSound};
 
 mod control;
 
@@ -88,6 +90,7 @@ impl Process {
     ghost use Rattle.f77_machine.specs.Active.{actives_of, InnermostNumbersFit};
     ghost use Rattle.f77_machine.specs.Assign.{as_written};
     ghost use Rattle.f77_machine.specs.Begun.{as_begun};
+    ghost use Rattle.f77_machine.specs.Print.{as_printed, AsksWithin, BeginsWith};
     ghost use Rattle.f77_machine.specs.Process.{frame_of, process_of, outcome_left, outcome_of_move, HasLoopRoom, IsProcessOf, KeepsPlace};
     ghost use Rattle.f77_machine.specs.Reads.{statement_reads, control_reads, most_reads, subscript_reads, reads_in};
     ghost use Rattle.f77_machine.specs.Setting.{setting_in};
@@ -102,9 +105,8 @@ impl Process {
         let Some(room) = room_for(program) else {
             return Err(NoMemory);
         };
-        let unit = main_unit(program.units.as_slice());
-        let at = first_executable(program.units.as_slice()[unit].listing.as_slice());
-        let unit = unit as u32;
+        let unit = main_of(program);
+        let at = entry_of(program, unit);
         Ok(Process {
             unit,
             at,
@@ -414,13 +416,7 @@ impl Process {
         ensures place { KeepsPlace program.now self.old self.new }
     {
         let length = line.len();
-        let from = Printing {
-            items: self.items,
-            cells: u64::from(self.cells),
-            answers: self.answers.as_slice(),
-        };
-        let left = items_from(items.as_slice(), self.items);
-        match print_items(&program.layout, self.unit, left, from, line) {
+        match self.printed(program, items, line) {
             Printed::GoesOn(_all) => {
                 fill(line);
                 self.go_past(program, self.at);
@@ -436,6 +432,23 @@ impl Process {
                 Stepped::Faulted(fault)
             }
         }
+    }
+
+    /// Where the PRINT of these items comes to, from where the process is; the line is made as far.
+    fn printed<'a>(&'a self, program: &Program, items: &Items<Item>, line: &mut Line) -> Printed<'a>
+        requires storage { IsStorage program.now.layout }
+        requires meaning { IsTrue (list_all (item_has_meaning program.now.layout self.now.unit) items.now) }
+        ensures value { as_printed result (text_of line.new) ≡ printed_of (setting_in program.now.layout self.now.unit) items.now (frame_of self.now) (text_of line.old) }
+        ensures asks { AsksWithin (length program.now.layout.first) (most_reads program.now.layout self.now.unit items.now) self.now.answers.items result }
+        ensures begins { BeginsWith (text_of line.new) (text_of line.old) }
+    {
+        let from = Printing {
+            items: self.items,
+            cells: u64::from(self.cells),
+            answers: self.answers.as_slice(),
+        };
+        let left = items_from(items.as_slice(), self.items);
+        print_items(&program.layout, self.unit, left, from, line)
     }
 
     /// Notes how far a statement is done, and keeps the first `kept` answers.
@@ -471,6 +484,24 @@ impl Process {
         ensures { result ≡ is_blocked address (frame_of self.now ∷ []) }
     {
         is_variable_of_any(self.active.as_slice(), address)
+    }
+}
+
+/// The number of the main unit, wherever it is in the file.
+fn main_of(program: &Program) -> u32
+    requires { IsSound program.now }
+    ensures { result ≡ main_unit program.now.units }
+{
+    main_unit(program.units.as_slice()) as u32
+}
+
+/// The place of the first executable statement of a unit.
+fn entry_of(program: &Program, unit: u32) -> usize
+    ensures { result ≡ first_executable (listing_of program.now.units unit) }
+{
+    match program.units.as_slice().get(unit as usize) {
+        None => 0,
+        Some(entered) => first_executable(entered.listing.as_slice()),
     }
 }
 

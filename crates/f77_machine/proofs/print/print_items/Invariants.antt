@@ -10,7 +10,7 @@ abbrev pub invariant-loop-item : goal.invariant-loop-item
 invariant-loop-item l = record {
   rest : after_items (setting_in l.layout l.unit) (drop l.item-index l.items) (as_printing l.at (text_of l.line)) ≡ after_items (setting_in l.layout l.unit) l.items (as_printing l.from (text_of l.initial.line));
   items : l.at.items ≡ l.from.items + l.item-index;
-  cells : l.at.cells + 1 < 2 ^ 64;
+  cells : l.at.cells < 2 ^ 32;
   answers : BeginsWith l.from.answers.now l.at.answers.now;
   begins : BeginsWith (text_of l.line) (text_of l.initial.line);
 }

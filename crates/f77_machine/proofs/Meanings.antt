@@ -1,0 +1,56 @@
+-- What has a meaning has it in its parts.
+use Rattle.std.proofs.Common.{◌≡◌, ℕ, ◌&&◌, ◌<◌, ◌≤◌, Bool, true, false, List, [], ◌∷◌, length, map, get_or, Option, Some, IsTrue, sym, subst, ◌∙◌, arith}
+use Rattle.std.specs.Option.{option_map}
+use Rattle.f77_ast.specs.declared.expr.Expr.{Expr, Binary}
+use Rattle.f77_ast.specs.declared.expr.Expr.TheFolds.{fold-roll-Expr}
+use Rattle.f77_ast.specs.declared.expr.Expr.TheOpen as layer
+use Rattle.f77_ast.specs.declared.expr.Expr.TheVariants.{rolls-Binary}
+use Rattle.f77_ast.specs.declared.expr.Op.{Op}
+use Rattle.f77_ast.specs.declared.program.Layout.{Layout}
+use Rattle.f77_ast.specs.declared.program.Entity.{Entity}
+use Rattle.f77_structure.specs.HasMeaning.{expr_has_meaning, is_integer_vector, meaning_part, meaning_ref, meaning_step, names_integer}
+use Rattle.f77_structure.specs.Values.{is_arithmetic}
+use Rattle.f77_ast.specs.declared.fault.Fault.TheVariants.{Subscript}
+use Rattle.f77_meaning.specs.Demand.{Evaluation, fails, located}
+use Rattle.std.proofs.Common.{ℤ, ap}
+
+-- both of the last two of three tests
+pub last_two : (a b c : Bool) → IsTrue (a && (b && c)) → IsTrue b × IsTrue c
+last_two true true true h = (h, h)
+last_two true true false h = absurd (cc)
+last_two true false c h = absurd (cc)
+last_two false b c h = absurd (cc)
+
+-- the second of two tests
+pub second : (a b : Bool) → IsTrue (a && b) → IsTrue b
+second true b h = h
+second false b h = absurd (cc)
+
+-- an operator and its operands
+binary_means : (layout : Layout) (unit : ℕ) (op : Op) (left right : Expr) → expr_has_meaning layout unit (Binary op left right) ≡ (is_arithmetic op && (expr_has_meaning layout unit left && expr_has_meaning layout unit right))
+binary_means layout unit op left right = ap (expr_has_meaning layout unit) (sym (rolls-Binary op left right)) ∙ fold-roll-Expr Bool (Unit {0}) Bool meaning_step meaning_part (meaning_ref layout unit) (layer.Binary op left right)
+
+-- the operands of an operator
+pub operands_mean : (layout : Layout) (unit : ℕ) (expr left right l r : Expr) (op : Op) → expr ≡ Binary op left right → l ≡ left → r ≡ right → IsTrue (expr_has_meaning layout unit expr) → IsTrue (expr_has_meaning layout unit l) × IsTrue (expr_has_meaning layout unit r)
+operands_mean layout unit expr left right l r op e f g h =
+    let parts : IsTrue (expr_has_meaning layout unit left) × IsTrue (expr_has_meaning layout unit right) =
+    last_two (is_arithmetic op) (expr_has_meaning layout unit left) (expr_has_meaning layout unit right) (subst (λ b. IsTrue b) (binary_means layout unit op left right) (subst (λ x. IsTrue (expr_has_meaning layout unit x)) e h)) in
+    (subst (λ x. IsTrue (expr_has_meaning layout unit x)) (sym f) parts.0, subst (λ x. IsTrue (expr_has_meaning layout unit x)) (sym g) parts.1)
+
+-- the one item of a list
+pub only_one : {X : Type 0} (xs : List X) (x : X) → 1 ≤ length xs → length xs < 2 → x ≡ get_or xs 0 x → xs ≡ x ∷ []
+only_one [] x l h e = absurd (omega (arith, l))
+only_one (y ∷ []) x l h e = ap (λ z. z ∷ []) (sym e)
+only_one (y ∷ z ∷ xs) x l h e = absurd (omega (arith, h))
+
+-- the one subscript of an element
+pub subscript_means : (means : Expr → Bool) (entity : Entity) (subscript : Expr) (xs : List Expr) (args : Option (List Expr)) → args ≡ Some xs → xs ≡ subscript ∷ [] → IsTrue (names_integer (Some entity) (option_map (map means) args)) → IsTrue (means subscript)
+subscript_means means entity subscript xs args e f h =
+    second (is_integer_vector (Some entity)) (means subscript)
+    (subst (λ ys. IsTrue (names_integer (Some entity) (Some (map means ys)))) f (subst (λ a. IsTrue (names_integer (Some entity) (option_map (map means) a))) e h))
+
+-- no reference with two subscripts or more has a meaning yet
+pub many_subscripts : (evaluation : Expr → Evaluation) (entity : Entity) (xs : List Expr) (args : Option (List Expr)) (answers : List ℤ) → args ≡ Some xs → 2 ≤ length xs → located (Some entity) (option_map (map evaluation) args) answers ≡ fails Subscript
+many_subscripts evaluation entity [] args answers e h = absurd (omega (arith, h))
+many_subscripts evaluation entity (x ∷ []) args answers e h = absurd (omega (arith, h))
+many_subscripts evaluation entity (x ∷ y ∷ xs) args answers e h = ap (λ a. located (Some entity) (option_map (map evaluation) a) answers) e
