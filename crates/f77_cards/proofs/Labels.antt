@@ -7,8 +7,10 @@ use Rattle.std.proofs.lemmas.Bool.Decides.{nat_tests}
 use Rattle.std.proofs.lemmas.List.Elements.{All-cons}
 use Rattle.f77_ast.specs.declared.program.Card.{Card}
 use Rattle.f77_ast.specs.declared.refusal.Refusal.{Refusal}
+use Rattle.f77_ast.specs.Refusal.{when, first_of}
+use Rattle.f77_ast.specs.declared.rule.Rule.TheVariants as rule
 use Rattle.f77_cards.specs.declared.line.Line.{Line}
-use Rattle.f77_cards.specs.Cards.{Statement, Grouped, grouped, statement_lines, card_of, at, when, line_breaks, statement_breaks, continuation_breaks, leading_breaks, is_open, breaks_of, first_of, unless_refused}
+use Rattle.f77_cards.specs.Cards.{Statement, Grouped, grouped, statement_lines, card_of, at, line_breaks, statement_breaks, continuation_breaks, leading_breaks, is_open, breaks_of, unless_refused}
 use Rattle.f77_cards.specs.Columns.{is_blank, is_initial, label_field, text_field, number_from, label_of}
 use Rattle.f77_cards.specs.Laws.{LabelsAreInRange}
 use Rattle.f77_cards.specs.Rules.{has_tab, has_bad_character, has_bad_label, is_bad_label, is_digit_or_blank, is_zero_or_blank}
@@ -115,9 +117,9 @@ not_when false r e = refl
 no_bad_label : (s : Statement) → statement_breaks s ≡ [] → has_bad_label s.initial ≡ false
 no_bad_label s e =
     let line = s.initial in
-    let front = left_nil (line_breaks false line ++ when (is_open s) (at line 5)) (continuation_breaks 1 (ends_inside false (text_field line)) s.continuations) e in
-    let own = left_nil (line_breaks false line) (when (is_open s) (at line 5)) front in
-    not_when (has_bad_label line) (at line 3) (right_nil (when (has_tab line) (at line 1) ++ when (has_bad_character false (text_field line)) (at line 2)) (when (has_bad_label line) (at line 3)) own)
+    let front = left_nil (line_breaks false line ++ when (is_open s) (at line rule.OpenConstant)) (continuation_breaks 1 (ends_inside false (text_field line)) s.continuations) e in
+    let own = left_nil (line_breaks false line) (when (is_open s) (at line rule.OpenConstant)) front in
+    not_when (has_bad_label line) (at line rule.BadLabel) (right_nil (when (has_tab line) (at line rule.Tab) ++ when (has_bad_character false (text_field line)) (at line rule.BadCharacter)) (when (has_bad_label line) (at line rule.BadLabel)) own)
 
 -- each statement begins with an initial line
 abbrev Begin : List Statement → Type 0

@@ -1,8 +1,8 @@
 pub mod Breaks
 pub mod ColumnLemmas
-pub mod Earliest
 pub mod Grouping
 pub mod Labels
 pub mod LineLemmas
 pub mod Order
+pub mod RisingLines
 pub mod Scans

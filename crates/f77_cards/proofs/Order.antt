@@ -4,12 +4,15 @@ use Rattle.std.specs.List.{flat_map}
 use Rattle.std.specs.Option.{option_or}
 use Rattle.std.proofs.lemmas.Bool.Decides.{nat_tests}
 use Rattle.f77_ast.specs.declared.refusal.Refusal.{Refusal}
+use Rattle.f77_ast.specs.Refusal.{code_of, when, is_earlier, earlier_of, first_of}
+use Rattle.f77_ast.specs.declared.rule.Rule.{Rule}
+use Rattle.f77_ast.specs.declared.rule.Rule.TheVariants as rule
 use Rattle.f77_cards.specs.declared.line.Line.{Line}
 use Rattle.f77_cards.specs.Columns.{numbered, filled, is_comment, is_initial, text_field}
 use Rattle.f77_cards.specs.Lines.{lines_of}
 use Rattle.f77_cards.specs.Rules.{has_tab, has_bad_character, has_bad_label}
 use Rattle.f77_cards.specs.Text.{ends_inside}
-use Rattle.f77_cards.specs.Cards.{Statement, Grouped, grouped, statement_lines, at, when, line_breaks, continuation_breaks, is_open, statement_breaks, leading_breaks, breaks_of, is_earlier, earlier_of, first_of}
+use Rattle.f77_cards.specs.Cards.{Statement, Grouped, grouped, statement_lines, at, line_breaks, continuation_breaks, is_open, statement_breaks, leading_breaks, breaks_of}
 use Rattle.f77_cards.proofs.Breaks.{head_of, head_append}
 use Rattle.f77_cards.proofs.Grouping.{with_by}
 
@@ -86,29 +89,30 @@ nothing low high = record { within = tt; first = refl }
 
 -- ---- one line
 
-one_code : (t : Bool) (line : Line) (code : ℕ) → code < 8 → Sorted (8 * line.number + code) (8 * line.number + (code + 1)) (when t (at line code))
-one_code true line code h = record { within = (omega arith, omega arith, h, tt); first = refl }
-one_code false line code h = nothing (8 * line.number + code) (8 * line.number + (code + 1))
+one_code : (t : Bool) (line : Line) (broken : Rule) → code_of broken < 8 → Sorted (8 * line.number + code_of broken) (8 * line.number + (code_of broken + 1)) (when t (at line broken))
+one_code true line broken h = record { within = (omega arith, omega arith, h, tt); first = refl }
+one_code false line broken h = nothing (8 * line.number + code_of broken) (8 * line.number + (code_of broken + 1))
 
 line_sorted : (inside : Bool) (line : Line) → Sorted (8 * line.number) (8 * line.number + 4) (line_breaks inside line)
 line_sorted inside line =
     let n : ℕ = 8 * line.number in
-    let tab = when (has_tab line) (at line 1) in
-    let bad = when (has_bad_character inside (text_field line)) (at line 2) in
-    let label = when (has_bad_label line) (at line 3) in
+    let tab = when (has_tab line) (at line rule.Tab) in
+    let bad = when (has_bad_character inside (text_field line)) (at line rule.BadCharacter) in
+    let label = when (has_bad_label line) (at line rule.BadLabel) in
     wider (n + 1) (n + 4) n (n + 4) (tab ++ bad ++ label) (omega arith) (omega arith)
     (joins (n + 1) (n + 3) (n + 4) (tab ++ bad) label (omega arith) (omega arith)
-    (joins (n + 1) (n + 2) (n + 3) tab bad (omega arith) (omega arith) (one_code (has_tab line) line 1 (omega arith)) (one_code (has_bad_character inside (text_field line)) line 2 (omega arith)))
-    (one_code (has_bad_label line) line 3 (omega arith)))
+    (joins (n + 1) (n + 2) (n + 3) tab bad (omega arith) (omega arith) (one_code (has_tab line) line rule.Tab (omega arith)) (one_code (has_bad_character inside (text_field line)) line rule.BadCharacter (omega arith)))
+    (one_code (has_bad_label line) line rule.BadLabel (omega arith)))
 
 -- a line with one more code
-more_sorted : (inside : Bool) (line : Line) (t : Bool) (code : ℕ) → 4 ≤ code → code < 8 → Sorted (8 * line.number) (8 * (line.number + 1)) (line_breaks inside line ++ when t (at line code))
-more_sorted inside line t code a b =
+more_sorted : (inside : Bool) (line : Line) (t : Bool) (broken : Rule) → 4 ≤ code_of broken → code_of broken < 8 → Sorted (8 * line.number) (8 * (line.number + 1)) (line_breaks inside line ++ when t (at line broken))
+more_sorted inside line t broken a b =
     let n : ℕ = 8 * line.number in
-    let one = when t (at line code) in
+    let code : ℕ = code_of broken in
+    let one = when t (at line broken) in
     joins n (n + code) (8 * (line.number + 1)) (line_breaks inside line) one (omega arith) (omega arith)
     (wider n (n + 4) n (n + code) (line_breaks inside line) (omega arith) (omega arith) (line_sorted inside line))
-    (wider (n + code) (n + (code + 1)) (n + code) (8 * (line.number + 1)) one (omega arith) (omega arith) (one_code t line code b))
+    (wider (n + code) (n + (code + 1)) (n + code) (8 * (line.number + 1)) one (omega arith) (omega arith) (one_code t line broken b))
 
 -- ---- lines in order
 
@@ -140,10 +144,10 @@ continuations_sorted [] k inside low high h = nothing (8 * low) (8 * high)
 continuations_sorted (line ∷ lines) k inside low high h =
     let n : ℕ = line.number in
     let l : n + 1 ≤ high = rising_le (n + 1) high lines h.1 in
-    let here = line_breaks inside line ++ when (k == 20) (at line 4) in
+    let here = line_breaks inside line ++ when (k == 20) (at line rule.TooManyContinuations) in
     let below : low ≤ n = h.0 in
     joins (8 * low) (8 * (n + 1)) (8 * high) here (continuation_breaks (k + 1) (ends_inside inside (text_field line)) lines) (omega arith) (omega arith)
-    (wider (8 * n) (8 * (n + 1)) (8 * low) (8 * (n + 1)) here (omega arith) (omega arith) (more_sorted inside line (k == 20) 4 (omega arith) (omega arith)))
+    (wider (8 * n) (8 * (n + 1)) (8 * low) (8 * (n + 1)) here (omega arith) (omega arith) (more_sorted inside line (k == 20) rule.TooManyContinuations (omega arith) (omega arith)))
     (continuations_sorted lines (k + 1) (ends_inside inside (text_field line)) (n + 1) high h.1)
 
 leading_sorted : (lines : List Line) (inside : Bool) (low high : ℕ) → Rising low high lines → Sorted (8 * low) (8 * high) (leading_breaks inside lines)
@@ -151,21 +155,21 @@ leading_sorted [] inside low high h = nothing (8 * low) (8 * high)
 leading_sorted (line ∷ lines) inside low high h =
     let n : ℕ = line.number in
     let l : n + 1 ≤ high = rising_le (n + 1) high lines h.1 in
-    let here = line_breaks inside line ++ when true (at line 6) in
+    let here = line_breaks inside line ++ when true (at line rule.LeadingContinuation) in
     let below : low ≤ n = h.0 in
     joins (8 * low) (8 * (n + 1)) (8 * high) here (leading_breaks (ends_inside inside (text_field line)) lines) (omega arith) (omega arith)
-    (wider (8 * n) (8 * (n + 1)) (8 * low) (8 * (n + 1)) here (omega arith) (omega arith) (more_sorted inside line true 6 (omega arith) (omega arith)))
+    (wider (8 * n) (8 * (n + 1)) (8 * low) (8 * (n + 1)) here (omega arith) (omega arith) (more_sorted inside line true rule.LeadingContinuation (omega arith) (omega arith)))
     (leading_sorted lines (ends_inside inside (text_field line)) (n + 1) high h.1)
 
 statement_sorted : (s : Statement) (low high : ℕ) → Rising low high (s.initial ∷ s.continuations) → Sorted (8 * low) (8 * high) (statement_breaks s)
 statement_sorted s low high h =
     let n : ℕ = s.initial.number in
     let l : n + 1 ≤ high = rising_le (n + 1) high s.continuations h.1 in
-    let here = line_breaks false s.initial ++ when (is_open s) (at s.initial 5) in
+    let here = line_breaks false s.initial ++ when (is_open s) (at s.initial rule.OpenConstant) in
     let inside = ends_inside false (text_field s.initial) in
     let below : low ≤ n = h.0 in
     joins (8 * low) (8 * (n + 1)) (8 * high) here (continuation_breaks 1 inside s.continuations) (omega arith) (omega arith)
-    (wider (8 * n) (8 * (n + 1)) (8 * low) (8 * (n + 1)) here (omega arith) (omega arith) (more_sorted false s.initial (is_open s) 5 (omega arith) (omega arith)))
+    (wider (8 * n) (8 * (n + 1)) (8 * low) (8 * (n + 1)) here (omega arith) (omega arith) (more_sorted false s.initial (is_open s) rule.OpenConstant (omega arith) (omega arith)))
     (continuations_sorted s.continuations 1 inside (n + 1) high h.1)
 
 -- ---- grouped lines in order

@@ -4,13 +4,14 @@ use Rattle.std.specs.List.{flat_map}
 use Rattle.std.specs.Option.{option_or}
 use Rattle.f77_ast.specs.declared.program.Card.{Card}
 use Rattle.f77_ast.specs.declared.refusal.Refusal.{Refusal}
+use Rattle.f77_ast.specs.declared.rule.Rule.{Rule}
 use Rattle.f77_cards.specs.declared.draft.Draft.{Draft}
 use Rattle.f77_cards.specs.declared.line.Line.{Line}
 use Rattle.f77_cards.specs.declared.reader.Reader.{Reader}
 use Rattle.f77_cards.specs.Columns.{numbered, is_comment, is_initial}
 use Rattle.f77_cards.specs.Lines.{lines_of}
 use Rattle.f77_cards.specs.Cards.{Statement, Grouped, grouped, statement_lines, card_of, at, statement_breaks, leading_breaks, unless_refused, cards_of}
-use Rattle.f77_cards.specs.Reading.{and_then, begun, continued, ended, ended_by, with_ended, begin_by, begin_after, first_code, leading_code, continue_by, step}
+use Rattle.f77_cards.specs.Reading.{and_then, begun, continued, ended, ended_by, with_ended, begin_by, begin_after, first_rule, leading_rule, continue_by, step}
 use Rattle.f77_cards.proofs.Breaks.{head_of, all_continued, statement_result, begin_result, statement_is, head_append, leading_head}
 use Rattle.f77_cards.proofs.Order.{first_is_head}
 use Rattle.f77_cards.proofs.Grouping.{with_by}
@@ -53,22 +54,22 @@ after cards (s ∷ statements) = and_then (statement_result s) (λ card. after (
 -- continuation lines before any initial line are refused
 abbrev leading_result : List Line → Result (List Card) Refusal → Result (List Card) Refusal
 leading_result [] rest = rest
-leading_result (line ∷ lines) rest = Err (at line (leading_code (first_code false line)))
+leading_result (line ∷ lines) rest = Err (at line (leading_rule (first_rule false line)))
 
 -- what lines make of a statement that is being read
 abbrev Goes : List Line → Type 0
 Goes lines = (cards : List Card) (d : Draft) → pass (record { cards = cards; draft = Some d }) lines ≡ and_then (ended (all_continued d (grouped lines).leading)) (λ card. after (cards ++ card ∷ []) (grouped lines).statements)
 
-begins : (lines : List Line) → Goes lines → (cards : List Card) (line : Line) (o : Option ℕ) → and_then (begin_by o cards line) (λ next. pass next lines) ≡ and_then (begin_result o (record { initial = line; continuations = (grouped lines).leading })) (λ card. after (cards ++ card ∷ []) (grouped lines).statements)
+begins : (lines : List Line) → Goes lines → (cards : List Card) (line : Line) (o : Option Rule) → and_then (begin_by o cards line) (λ next. pass next lines) ≡ and_then (begin_result o (record { initial = line; continuations = (grouped lines).leading })) (λ card. after (cards ++ card ∷ []) (grouped lines).statements)
 begins lines goes cards line None = goes cards (begun line)
-begins lines goes cards line (Some code) = refl
+begins lines goes cards line (Some broken) = refl
 
 goes_on : (lines : List Line) → Goes lines
 goes_on [] cards d = refl
 goes_on (line ∷ lines) cards d = by (goes_on lines) (is_initial line)
   where
-    first_by : Goes lines → (x : Result Card Refusal) → and_then (and_then (and_then x (λ card. Ok (cards ++ card ∷ []))) (λ more. begin_by (first_code false line) more line)) (λ next. pass next lines) ≡ and_then x (λ card. and_then (begin_result (first_code false line) (record { initial = line; continuations = (grouped lines).leading })) (λ next. after ((cards ++ card ∷ []) ++ next ∷ []) (grouped lines).statements))
-    first_by goes (Ok card) = begins lines goes (cards ++ card ∷ []) line (first_code false line)
+    first_by : Goes lines → (x : Result Card Refusal) → and_then (and_then (and_then x (λ card. Ok (cards ++ card ∷ []))) (λ more. begin_by (first_rule false line) more line)) (λ next. pass next lines) ≡ and_then x (λ card. and_then (begin_result (first_rule false line) (record { initial = line; continuations = (grouped lines).leading })) (λ next. after ((cards ++ card ∷ []) ++ next ∷ []) (grouped lines).statements))
+    first_by goes (Ok card) = begins lines goes (cards ++ card ∷ []) line (first_rule false line)
     first_by goes (Err e) = refl
 
     by : Goes lines → (t : Bool) → and_then (step_by t (record { cards = cards; draft = Some d }) line) (λ next. pass next lines) ≡ and_then (ended (all_continued d (with_by t line (grouped lines)).leading)) (λ card. after (cards ++ card ∷ []) (with_by t line (grouped lines)).statements)
@@ -80,7 +81,7 @@ starts [] cards = refl
 starts (line ∷ lines) cards = by (is_initial line)
   where
     by : (t : Bool) → and_then (step_by t (record { cards = cards; draft = None }) line) (λ next. pass next lines) ≡ leading_result (with_by t line (grouped lines)).leading (after cards (with_by t line (grouped lines)).statements)
-    by true = begins lines (goes_on lines) cards line (first_code false line)
+    by true = begins lines (goes_on lines) cards line (first_rule false line)
     by false = refl
 
 -- ---- refusals

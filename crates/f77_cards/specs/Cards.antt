@@ -1,8 +1,11 @@
 -- The cards of a file, and why it has none. A definition over the whole list of lines.
-use Rattle.std.specs.Prelude.{ℕ, ◌+◌, Bool, true, false, not, ◌&&◌, ◌||◌, ◌==◌, nat_lt, List, [], ◌∷◌, ◌++◌, map, filter, Option, Some, None, Result, Ok, Err, if◌then◌else◌}
+use Rattle.std.specs.Prelude.{ℕ, ◌+◌, Bool, false, not, List, [], ◌∷◌, ◌++◌, map, filter, Option, Some, None, Result, Ok, Err, if◌then◌else◌}
 use Rattle.std.specs.List.{flat_map}
 use Rattle.f77_ast.specs.declared.program.Card.{Card}
+use Rattle.f77_ast.specs.Refusal.{refusal_by, when, first_of}
 use Rattle.f77_ast.specs.declared.refusal.Refusal.{Refusal}
+use Rattle.f77_ast.specs.declared.rule.Rule.{Rule}
+use Rattle.f77_ast.specs.declared.rule.Rule.TheVariants as rule
 use Rattle.f77_cards.specs.declared.line.Line.{Line}
 use Rattle.f77_cards.specs.Columns.{numbered, is_comment, is_initial, text_field, label_of}
 use Rattle.f77_cards.specs.Lines.{lines_of}
@@ -44,23 +47,18 @@ card_of s = record { label = label_of s.initial; line = s.initial.number; text =
 
 -- ---- what is broken
 
--- a refusal of a line
-abbrev pub at : Line → ℕ → Refusal
-at line code = record { line = line.number; code = code }
-
--- a refusal, where a rule is broken
-abbrev pub when : Bool → Refusal → List Refusal
-when true refusal = refusal ∷ []
-when false refusal = []
+-- a refusal of a line by a rule
+abbrev pub at : Line → Rule → Refusal
+at line rule = refusal_by line.number rule
 
 -- codes 1 to 3 of a line, whose column 7 is inside a character constant or outside
 abbrev pub line_breaks : Bool → Line → List Refusal
-line_breaks inside line = when (has_tab line) (at line 1) ++ when (has_bad_character inside (text_field line)) (at line 2) ++ when (has_bad_label line) (at line 3)
+line_breaks inside line = when (has_tab line) (at line rule.Tab) ++ when (has_bad_character inside (text_field line)) (at line rule.BadCharacter) ++ when (has_bad_label line) (at line rule.BadLabel)
 
 -- codes 1 to 4 of continuation lines, of which the first is the k-th of its statement
 abbrev pub continuation_breaks : ℕ → Bool → List Line → List Refusal
 continuation_breaks k inside [] = []
-continuation_breaks k inside (line ∷ lines) = line_breaks inside line ++ when (is_one_too_many k) (at line 4) ++ continuation_breaks (k + 1) (ends_inside inside (text_field line)) lines
+continuation_breaks k inside (line ∷ lines) = line_breaks inside line ++ when (is_one_too_many k) (at line rule.TooManyContinuations) ++ continuation_breaks (k + 1) (ends_inside inside (text_field line)) lines
 
 -- code 5: a statement's text ends inside a character constant
 abbrev pub is_open : Statement → Bool
@@ -68,32 +66,16 @@ is_open s = ends_inside false (joined s)
 
 -- codes 1 to 5 of a statement
 abbrev pub statement_breaks : Statement → List Refusal
-statement_breaks s = line_breaks false s.initial ++ when (is_open s) (at s.initial 5) ++ continuation_breaks 1 (ends_inside false (text_field s.initial)) s.continuations
+statement_breaks s = line_breaks false s.initial ++ when (is_open s) (at s.initial rule.OpenConstant) ++ continuation_breaks 1 (ends_inside false (text_field s.initial)) s.continuations
 
 -- codes 1 to 3 and 6 of continuation lines before any initial line; code 6: each of them
 abbrev pub leading_breaks : Bool → List Line → List Refusal
 leading_breaks inside [] = []
-leading_breaks inside (line ∷ lines) = line_breaks inside line ++ (at line 6 ∷ []) ++ leading_breaks (ends_inside inside (text_field line)) lines
+leading_breaks inside (line ∷ lines) = line_breaks inside line ++ (at line rule.LeadingContinuation ∷ []) ++ leading_breaks (ends_inside inside (text_field line)) lines
 
 -- all that is broken in grouped lines
 abbrev pub breaks_of : Grouped → List Refusal
 breaks_of g = leading_breaks false g.leading ++ flat_map statement_breaks g.statements
-
--- ---- the first refusal
-
--- whether a refusal is of an earlier line than another, or of the same line and a lesser code
-abbrev pub is_earlier : Refusal → Refusal → Bool
-is_earlier r s = nat_lt r.line s.line || (r.line == s.line && nat_lt r.code s.code)
-
--- the earlier of a refusal and one that may be there
-abbrev pub earlier_of : Refusal → Option Refusal → Refusal
-earlier_of r None = r
-earlier_of r (Some s) = if is_earlier s r then s else r
-
--- the first refusal: of the least line, and of those on that line the least code
-abbrev pub first_of : List Refusal → Option Refusal
-first_of [] = None
-first_of (r ∷ rs) = Some (earlier_of r (first_of rs))
 
 -- ---- cards
 

@@ -1,16 +1,7 @@
--- What the definitions of refusals and cards come to.
-use Rattle.std.specs.Prelude.{◌≡◌, ℕ, ◌+◌, ◌≤◌, false, List, [], ◌∷◌, Ok, All, Contains, IfSome, MatchOption}
+-- What the definition of cards gives.
+use Rattle.std.specs.Prelude.{◌≡◌, ℕ, ◌+◌, ◌≤◌, List, [], ◌∷◌, Ok, All, IfSome}
 use Rattle.f77_ast.specs.declared.program.Card.{Card}
-use Rattle.f77_ast.specs.declared.refusal.Refusal.{Refusal}
-use Rattle.f77_cards.specs.Cards.{is_earlier, first_of, cards_of}
-
--- no refusal of a list is of an earlier line than this one, or of its line and a lesser code
-abbrev pub NoneIsEarlier : Refusal → List Refusal → Type 0
-NoneIsEarlier r rs = All (λ s. is_earlier s r ≡ false) rs
-
--- the first of some refusals is one of them, and none of them is earlier; there is none only of an empty list
-abbrev pub FirstRefusalIsEarliest : Type 0
-FirstRefusalIsEarliest = (rs : List Refusal) → MatchOption (first_of rs) (rs ≡ []) (λ r. Contains rs r × NoneIsEarlier r rs)
+use Rattle.f77_cards.specs.Cards.{cards_of}
 
 -- the lines of cards rise: the first is n or a later line, and each is a later one than those before it
 abbrev pub Rise : ℕ → List Card → Type 0

@@ -1,8 +1,9 @@
 -- Codes 1 to 4: what a line breaks by its own columns, by whether its column 7 is inside a character constant, and by its
 -- number among its statement's continuation lines. Comment lines break none. Codes 5 and 6 stand in `Cards`.
-use Rattle.std.specs.Prelude.{ℕ, Bool, false, not, ◌&&◌, ◌||◌, ◌==◌, nat_lt, List, [], ◌∷◌, codes, if◌then◌else◌}
+use Rattle.std.specs.Prelude.{ℕ, ◌+◌, Bool, false, not, ◌&&◌, ◌||◌, ◌==◌, nat_lt, List, [], ◌∷◌, codes, if◌then◌else◌}
 use Rattle.std.specs.Char.{is_ascii_digit, is_ascii_alphabetic}
 use Rattle.std.specs.List.{list_all, list_any}
+use Rattle.f77_ast.specs.Limits.{most_continuation_lines}
 use Rattle.f77_cards.specs.declared.line.Line.{Line}
 use Rattle.f77_cards.specs.Columns.{is_blank, is_initial, label_field}
 use Rattle.f77_cards.specs.Text.{switched}
@@ -44,6 +45,6 @@ is_bad_label field = not (list_all is_digit_or_blank field) || (list_any is_asci
 abbrev pub has_bad_label : Line → Bool
 has_bad_label line = if is_initial line then is_bad_label (label_field line) else not (list_all is_blank (label_field line))
 
--- code 4: the k-th continuation line of a statement is the 20th, where 19 are allowed (ANSI X3.9-1978, section 3.3)
+-- code 4: the k-th continuation line of a statement is the first that is one too many (ANSI X3.9-1978, section 3.3)
 abbrev pub is_one_too_many : ℕ → Bool
-is_one_too_many k = k == 20
+is_one_too_many k = k == most_continuation_lines + 1

@@ -2,10 +2,11 @@
 ghost use Rattle.std.specs.Prelude.{◌≡◌, OnOk, IfOk};
 
 use crate::line::Line;
-use crate::rules::{OPEN_CONSTANT, continuation_break};
+use crate::rules::continuation_break;
 use crate::text::{ends_inside, push_text};
 use f77_ast::program::Card;
 use f77_ast::refusal::Refusal;
+use f77_ast::rule::Rule;
 use hyb_base::bytes::Bytes;
 use hyb_base::no_memory::NoMemory;
 use std::alloc::Global;
@@ -69,10 +70,7 @@ impl Draft {
         ensures { result ≡ ended self }
     {
         if self.inside {
-            return Err(Refusal {
-                line: self.card.line,
-                code: OPEN_CONSTANT,
-            });
+            return Err(Refusal::new(self.card.line, Rule::OpenConstant));
         }
         match self.broken {
             None => Ok(self.card),

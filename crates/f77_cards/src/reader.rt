@@ -3,7 +3,7 @@ ghost use Rattle.std.specs.Prelude.{◌≡◌, false, OnOk, IfOk, Ok};
 
 use crate::draft::Draft;
 use crate::line::Line;
-use crate::rules::{first_code, leading_code, refused};
+use crate::rules::{first_rule, leading_rule, refused};
 use f77_ast::program::Card;
 use f77_ast::refusal::FrontError;
 use hyb_base::list::List;
@@ -20,7 +20,7 @@ pub struct Reader {
 
 impl Reader {
     ghost use Rattle.std.specs.Prelude.{[], None};
-    ghost use Rattle.f77_cards.specs.Reading.{with_ended, begin_by, first_code, begin_after, continue_by, step, RefusedAs};
+    ghost use Rattle.f77_cards.specs.Reading.{with_ended, begin_by, first_rule, begin_after, continue_by, step, RefusedAs};
 
     /// Before the first line. It takes no memory.
     pub fn new(alloc: Global) -> Reader
@@ -78,11 +78,11 @@ impl Reader {
 
     /// Begins the statement of an initial line.
     fn begin(&mut self, alloc: Global, line: &Line) -> Result<(), FrontError>
-        ensures read { OnOk result (begin_by (first_code false line.now) self.old.cards line.now ≡ Ok self.new) }
-        ensures refused { RefusedAs result (begin_by (first_code false line.now) self.old.cards line.now) }
+        ensures read { OnOk result (begin_by (first_rule false line.now) self.old.cards line.now ≡ Ok self.new) }
+        ensures refused { RefusedAs result (begin_by (first_rule false line.now) self.old.cards line.now) }
     {
-        match first_code(false, line) {
-            Some(code) => Err(refused(line, code)),
+        match first_rule(false, line) {
+            Some(rule) => Err(refused(line, rule)),
             None => {
                 self.draft = Some(Draft::begin(alloc, line)?);
                 Ok(())
@@ -96,7 +96,7 @@ impl Reader {
         ensures refused { RefusedAs result (continue_by self.old.cards self.old.draft line.now) }
     {
         match &mut self.draft {
-            None => Err(refused(line, leading_code(line))),
+            None => Err(refused(line, leading_rule(line))),
             Some(draft) => {
                 draft.go_on(line)?;
                 Ok(())

@@ -1,34 +1,15 @@
-//! The codes 1 to 6, and the rules on lines that are no comments, codes 1 to 4 and 6.
+//! The rules on lines that are no comments, codes 1 to 4 and 6.
 ghost use Rattle.std.specs.Prelude.{◌≡◌, false};
 ghost use Rattle.f77_cards.specs.Rules.{has_tab, may_stand_outside, may_stand_inside, may_stand, has_bad_character, is_digit_or_blank, is_zero_or_blank, is_bad_label, has_bad_label};
 ghost use Rattle.std.specs.List.{list_all};
 ghost use Rattle.f77_cards.specs.Cards.{at};
-ghost use Rattle.f77_cards.specs.Reading.{first_code, leading_code, refused_at, continuation_code};
+ghost use Rattle.f77_cards.specs.Reading.{first_rule, leading_rule, refused_at, continuation_rule};
 
 use crate::line::{Line, has_digit, is_all_blank};
 use crate::text::switched;
+use f77_ast::limits::MOST_CONTINUATION_LINES;
 use f77_ast::refusal::{FrontError, Refusal};
-
-/// Code 1: a tab.
-const TAB: u8 = 1;
-
-/// Code 2: a character that may not be at its place.
-const BAD_CHARACTER: u8 = 2;
-
-/// Code 3: a label that is none, or one on a continuation line.
-const BAD_LABEL: u8 = 3;
-
-/// Code 4: too many continuation lines.
-const TOO_MANY_CONTINUATIONS: u8 = 4;
-
-/// The continuation line of a statement that is one too many.
-const ONE_TOO_MANY: u32 = 20;
-
-/// Code 5: a character constant that isn't closed.
-pub const OPEN_CONSTANT: u8 = 5;
-
-/// Code 6: a continuation line before any initial line.
-const LEADING_CONTINUATION: u8 = 6;
+use f77_ast::rule::Rule;
 
 /// Whether a line has a tab in columns 1 to 72.
 fn has_tab(line: &Line) -> bool
@@ -114,58 +95,53 @@ fn has_bad_label(line: &Line) -> bool
     }
 }
 
-/// The first of the codes 1 to 3 of a line, whose column 7 is inside a character constant or outside.
-pub fn first_code(inside: bool, line: &Line) -> Option<u8>
-    ensures { result ≡ first_code inside line.now }
+/// The first rule that a line breaks by its own columns (codes 1 to 3): its column 7 is inside a character constant or
+/// outside.
+pub fn first_rule(inside: bool, line: &Line) -> Option<Rule>
+    ensures { result ≡ first_rule inside line.now }
 {
     if has_tab(line) {
-        Some(TAB)
+        Some(Rule::Tab)
     } else if has_bad_character(inside, line.text_field()) {
-        Some(BAD_CHARACTER)
+        Some(Rule::BadCharacter)
     } else if has_bad_label(line) {
-        Some(BAD_LABEL)
+        Some(Rule::BadLabel)
     } else {
         None
     }
 }
 
-/// The first of the codes 1 to 3 and 6 of a continuation line before any initial line.
-pub fn leading_code(line: &Line) -> u8
-    ensures { result ≡ leading_code (first_code false line.now) }
+/// The first rule that a continuation line before any initial line breaks (codes 1 to 3 and 6).
+pub fn leading_rule(line: &Line) -> Rule
+    ensures { result ≡ leading_rule (first_rule false line.now) }
 {
-    first_code(false, line).unwrap_or(LEADING_CONTINUATION)
+    first_rule(false, line).unwrap_or(Rule::LeadingContinuation)
 }
 
-/// A refusal of a line by a code.
-pub fn refused(line: &Line, code: u8) -> FrontError
-    ensures { result ≡ FrontError.Refused (at line.now code) }
+/// A refusal of a line by a rule.
+pub fn refused(line: &Line, rule: Rule) -> FrontError
+    ensures { result ≡ FrontError.Refused (at line.now rule) }
 {
-    FrontError::Refused(Refusal {
-        line: line.number,
-        code,
-    })
+    FrontError::Refused(Refusal::new(line.number, rule))
 }
 
 /// The first refusal of the k-th continuation line of a statement, by the codes 1 to 4.
 pub fn continuation_break(k: u32, inside: bool, line: &Line) -> Option<Refusal>
-    ensures { result ≡ refused_at line.now (continuation_code k inside line.now) }
+    ensures { result ≡ refused_at line.now (continuation_rule k inside line.now) }
 {
-    match continuation_code(k, inside, line) {
+    match continuation_rule(k, inside, line) {
         None => None,
-        Some(code) => Some(Refusal {
-            line: line.number,
-            code,
-        }),
+        Some(rule) => Some(Refusal::new(line.number, rule)),
     }
 }
 
-/// The first of the codes 1 to 4 of the k-th continuation line of a statement.
-fn continuation_code(k: u32, inside: bool, line: &Line) -> Option<u8>
-    ensures { result ≡ continuation_code k inside line.now }
+/// The first rule that the k-th continuation line of a statement breaks (codes 1 to 4).
+fn continuation_rule(k: u32, inside: bool, line: &Line) -> Option<Rule>
+    ensures { result ≡ continuation_rule k inside line.now }
 {
-    match first_code(inside, line) {
-        Some(code) => Some(code),
-        None if k == ONE_TOO_MANY => Some(TOO_MANY_CONTINUATIONS),
+    match first_rule(inside, line) {
+        Some(rule) => Some(rule),
+        None if k == MOST_CONTINUATION_LINES + 1 => Some(Rule::TooManyContinuations),
         None => None,
     }
 }

@@ -2,7 +2,10 @@
 use Rattle.std.specs.Prelude.{ℕ, ◌-◌, ◌^◌, Bool, false, not, ◌&&◌, ◌||◌, ◌==◌, nat_le, nat_lt, if◌then◌else◌, List, [], ◌∷◌, length, take, drop, codes}
 use Rattle.hyb_base.specs.Decimal.{value_of}
 use Rattle.f77_ast.specs.Name.{is_letter, is_digit, is_alphanumeric}
+use Rattle.f77_ast.specs.Refusal.{refusal_by}
 use Rattle.f77_ast.specs.declared.refusal.Refusal.{Refusal}
+use Rattle.f77_ast.specs.declared.rule.Rule.{Rule}
+use Rattle.f77_ast.specs.declared.rule.Rule.TheVariants as rule
 use Rattle.f77_exprs.specs.declared.cause.Cause.{Cause}
 use Rattle.f77_exprs.specs.declared.cause.Cause.TheVariants.{RealLiteral, LiteralRange, NameTooLong, NoExpression}
 use Rattle.f77_exprs.specs.Operators.{Text, begins}
@@ -106,13 +109,13 @@ first_cause plain = if stands RealLiteral plain then RealLiteral else (if stands
 abbrev pub cause_of : Text → Cause
 cause_of text = first_cause (outside text)
 
--- the code of a cause
-abbrev pub code_of : Cause → ℕ
-code_of NoExpression = 10
-code_of LiteralRange = 11
-code_of RealLiteral = 12
-code_of NameTooLong = 13
+-- the rule by which a cause refuses
+abbrev pub rule_of : Cause → Rule
+rule_of NoExpression = rule.NoExpression
+rule_of LiteralRange = rule.LiteralRange
+rule_of RealLiteral = rule.RealLiteral
+rule_of NameTooLong = rule.NameTooLong
 
 -- its refusal: the text stands in no file, so the line is 0
 abbrev pub refusal_of : Text → Refusal
-refusal_of text = record { line = 0; code = code_of (cause_of text) }
+refusal_of text = refusal_by 0 (rule_of (cause_of text))

@@ -4,6 +4,7 @@ ghost use Rattle.f77_exprs.specs.Cause as spec;
 
 use crate::outside::outside;
 use crate::reader::{alphanumerics, digits, is_alphanumeric, number_of};
+use f77_ast::rule::Rule;
 use hyb_base::no_memory::NoMemory;
 use std::alloc::Global;
 
@@ -22,15 +23,15 @@ pub enum Cause {
 }
 
 impl Cause {
-    /// Its code: 10 to 13 in the order of the list.
-    pub fn code(self) -> u8
-        ensures { result ≡ spec.code_of self }
+    /// The rule by which it refuses.
+    pub fn rule(self) -> Rule
+        ensures { result ≡ spec.rule_of self }
     {
         match self {
-            Cause::NoExpression => 10,
-            Cause::LiteralRange => 11,
-            Cause::RealLiteral => 12,
-            Cause::NameTooLong => 13,
+            Cause::NoExpression => Rule::NoExpression,
+            Cause::LiteralRange => Rule::LiteralRange,
+            Cause::RealLiteral => Rule::RealLiteral,
+            Cause::NameTooLong => Rule::NameTooLong,
         }
     }
 }

@@ -32,10 +32,7 @@ fn refusal(alloc: Global, text: &[u8]) -> Result<Refusal, NoMemory>
     ensures { IfOk result (λ refusal. refusal ≡ refusal_of text.now) }
 {
     let cause = cause_of(alloc, text)?;
-    Ok(Refusal {
-        line: 0,
-        code: cause.code(),
-    })
+    Ok(Refusal::new(0, cause.rule()))
 }
 
 /// expr: the one expression that a text spells, in which no blanks and no lower-case letters are outside character

@@ -1,5 +1,5 @@
 -- An accepted program is sound.
-use Rattle.std.proofs.Common.{◌≡◌, ℕ, zero, suc, ◌+◌, ◌<◌, ◌^◌, true, false, not, List, [], ◌∷◌, ◌++◌, length, All, Some, Result, Ok, Err, refl, sym, ap, ◌∙◌, subst, arith, slice_get, IsSome, IsTrue}
+use Rattle.std.proofs.Common.{◌≡◌, ℕ, zero, suc, ◌+◌, ◌<◌, ◌^◌, true, false, not, List, [], ◌∷◌, ◌++◌, length, All, Some, Result, Ok, Err, refl, sym, ap, ◌∙◌, subst, arith, slice_get, IsTrue}
 use Rattle.std.proofs.lemmas.List.Elements.{All-cons}
 use Rattle.std.specs.Prelude.{IfOk}
 use Rattle.f77_ast.specs.declared.program.Layout.{Layout}
@@ -12,15 +12,16 @@ use Rattle.f77_front.proofs.Files.{program_made, units_made, accepted_of}
 use Rattle.f77_front.specs.Front.{program_with, program_of, units_of, front_of}
 use Rattle.f77_structure.specs.Loops.{loops_of}
 use Rattle.f77_structure.specs.Units.{statement_count, is_main}
-use Rattle.f77_structure.specs.Resolves.{statement_resolves}
+use Rattle.f77_structure.specs.HasMeaning.{statement_has_meaning}
 use Rattle.f77_meaning.specs.Sound.{IsSound}
 use Rattle.f77_structure.specs.Storage.{IsLaidOut}
 use Rattle.f77_shape.proofs.Accepted.{ranges_nest, files_are_small}
 use Rattle.f77_shape.proofs.AcceptedUnits.{units_end, one_main}
 use Rattle.f77_shape.specs.Laws.{HasOneMain}
 use Rattle.f77_shape.specs.Shape.{shape_of}
+use Rattle.f77_structure.proofs.UnitLemmas.{main_is_there}
 use Rattle.f77_structure.specs.Statements.{begins_subprogram}
-use Rattle.f77_subset.proofs.Satisfies.{built_law, laid_out_law, resolve_law, storage_law}
+use Rattle.f77_subset.proofs.Satisfies.{built_law, laid_out_law, meaning_law, storage_law}
 use Rattle.f77_subset.specs.Built.{is_built}
 use Rattle.f77_subset.specs.Subset.{listing_of, subset_of}
 
@@ -61,29 +62,30 @@ one_unit (unit ∷ other ∷ units) main built =
 
 -- ---- all that makes a program sound
 
--- the references of the statements of one unit
-all_resolve : (units : List ProgramUnit) (layout : Layout) → (unit : ProgramUnit) × (units ≡ unit ∷ []) → All (λ listed. IsTrue (statement_resolves layout 0 listed.stmt)) (listing_of units) → (u : ℕ) (unit : ProgramUnit) → slice_get units u ≡ Some unit → All (λ listed. IsTrue (statement_resolves layout u listed.stmt)) unit.listing
-all_resolve units layout (main, is) resolved u unit e = by u (sym (ap (λ us. slice_get us u) is) ∙ e)
+-- the statements of one unit have a meaning
+all_mean : (units : List ProgramUnit) (layout : Layout) → (unit : ProgramUnit) × (units ≡ unit ∷ []) → All (λ listed. IsTrue (statement_has_meaning layout 0 listed.stmt)) (listing_of units) → (u : ℕ) (unit : ProgramUnit) → slice_get units u ≡ Some unit → All (λ listed. IsTrue (statement_has_meaning layout u listed.stmt)) unit.listing
+all_mean units layout (main, is) means u unit e = by u (sym (ap (λ us. slice_get us u) is) ∙ e)
   where
     P : Listed → Type 0
-    P = λ listed. IsTrue (statement_resolves layout 0 listed.stmt)
+    P = λ listed. IsTrue (statement_has_meaning layout 0 listed.stmt)
 
     first : All P main.listing
-    first = of_first P main.listing [] (subst (λ us. All P (listing_of us)) is resolved)
+    first = of_first P main.listing [] (subst (λ us. All P (listing_of us)) is means)
 
-    by : (u : ℕ) → slice_get (main ∷ []) u ≡ Some unit → All (λ listed. IsTrue (statement_resolves layout u listed.stmt)) unit.listing
+    by : (u : ℕ) → slice_get (main ∷ []) u ≡ Some unit → All (λ listed. IsTrue (statement_has_meaning layout u listed.stmt)) unit.listing
     by zero h = let same : main ≡ unit = cc in subst (λ w. All P w.listing) same first
     by (suc u) h = absurd cc
 
--- an accepted program is sound: its shape has END, ranges and numbers; that it is built so far has references and storage
+-- an accepted program is sound: its shape has END, ranges and numbers; that it is built so far gives meanings and storage
 pub program_sound : (statements : List Listed) (units : List ProgramUnit) (layout : Layout) → shape_of statements ≡ Ok units → subset_of (loops_of units) units ≡ Ok layout → IsSound (program_with units layout)
 program_sound statements units layout shape subset =
     let small = files_are_small statements units shape in
-    let one = one_unit units (one_main statements units shape) (built_law (loops_of units) units layout subset) in
+    let mains = one_main statements units shape in
+    let one = one_unit units mains (built_law (loops_of units) units layout subset) in
     record {
-      main = subst (λ us. IsSome (slice_get us 0)) (sym one.1) refl;
+      main = main_is_there units mains.place mains.unit mains.stands mains.main;
       ended = units_end statements units shape;
-      resolved = all_resolve units layout one (resolve_law (loops_of units) units layout subset);
+      meaning = all_mean units layout one (meaning_law (loops_of units) units layout subset);
       storage = storage_law (loops_of units) units layout subset;
       loops = refl;
       ranges = ranges_nest statements units shape;

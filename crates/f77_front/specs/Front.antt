@@ -6,13 +6,14 @@ use Rattle.f77_ast.specs.declared.program.Layout.{Layout}
 use Rattle.f77_ast.specs.declared.program.Listed.{Listed}
 use Rattle.f77_ast.specs.declared.program.Program.{Program}
 use Rattle.f77_ast.specs.declared.program.Unit.{Unit as ProgramUnit}
+use Rattle.f77_ast.specs.Refusal.{refusal_by}
 use Rattle.f77_ast.specs.declared.refusal.Refusal.{Refusal}
 use Rattle.f77_ast.specs.declared.stmt.Stmt.{Stmt}
 use Rattle.f77_cards.specs.Cards.{cards_of}
 use Rattle.f77_structure.specs.Loops.{loops_of}
 use Rattle.f77_operands.specs.Limit.{operand_refusal}
 use Rattle.f77_shape.specs.Shape.{shape_of}
-use Rattle.f77_stmts.specs.Cause.{code_of}
+use Rattle.f77_stmts.specs.Cause.{rule_of}
 use Rattle.f77_stmts.specs.Statement.{statement_of}
 use Rattle.f77_subset.specs.Subset.{subset_of}
 
@@ -21,10 +22,10 @@ abbrev pub and_then : {A B : Type 0} → Result A Refusal → (A → Result B Re
 and_then (Ok made) go = go made
 and_then (Err refusal) go = Err refusal
 
--- a card with the statement that its text spells; codes 11, 12, 13, 20 and 21 where it spells none
+-- a card with the statement that its text spells, or the refusal by the rule that it breaks where it spells none
 abbrev pub listed_by : Card → Option Stmt → Result Listed Refusal
 listed_by card (Some statement) = Ok (record { card = card; stmt = statement })
-listed_by card None = Err (record { line = card.line; code = code_of card.text })
+listed_by card None = Err (refusal_by card.line (rule_of card.text))
 
 abbrev pub listed_of : Card → Result Listed Refusal
 listed_of card = listed_by card (statement_of card.text)

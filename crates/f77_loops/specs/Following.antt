@@ -1,5 +1,5 @@
 -- What the code knows of the statements that follow one.
-use Rattle.std.specs.Prelude.{◌≡◌, ℕ, ◌+◌, Bool, true, List, length, reverse, Option, None, Some, nat_eq, nat_lt}
+use Rattle.std.specs.Prelude.{◌≡◌, ℕ, ◌+◌, Bool, true, List, length, reverse, Option, None, Some, nat_lt}
 use Rattle.std.specs.Option.{unwrap_or}
 use Rattle.f77_ast.specs.declared.program.Listed.{Listed}
 use Rattle.f77_loops.specs.declared.following.Following.{Following}

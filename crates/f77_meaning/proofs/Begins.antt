@@ -1,11 +1,11 @@
 -- The numbers with which a DO statement begins.
-use Rattle.std.proofs.Common.{◌≡◌, ℕ, suc, ◌+◌, ◌<◌, ◌≤◌, ◌^◌, ◌==◌, ◌&&◌, ℤ, pos, List, [], ◌∷◌, All, length, Option, None, Some, refl, subst, arith, Bool, true, false, cond, find}
+use Rattle.std.proofs.Common.{◌≡◌, ℕ, suc, ◌<◌, ◌^◌, ◌&&◌, ℤ, pos, List, [], ◌∷◌, All, length, Option, None, Some, refl, subst, arith, Bool, true, false, cond, find}
 use Rattle.f77_ast.specs.Entity.{entity_in, is_named}
 use Rattle.f77_ast.specs.declared.program.Entity.{Entity}
-use Rattle.f77_ast.specs.declared.fault.Fault.TheVariants.{Subscript, ZeroIncrement, DoRange}
+use Rattle.f77_ast.specs.declared.fault.Fault.TheVariants.{ZeroIncrement, DoRange}
 use Rattle.f77_ast.specs.declared.specification.Bound.{Bound}
 use Rattle.f77_ast.specs.declared.stmt.LoopControl.{LoopControl}
-use Rattle.f77_structure.specs.Storage.{IsStorage, LiesIn, address_of_variable, is_scalar, start_of, storage_units_of, storage_units_by}
+use Rattle.f77_structure.specs.Storage.{IsStorage, LiesIn, is_scalar, start_of, storage_units_of, storage_units_by}
 use Rattle.f77_meaning.specs.Demand.{Demand, gives, wants, calls, fails, and_then, located, place_by, Setting}
 use Rattle.f77_meaning.specs.Do.{Begun, Parameters, begun_of, begun_with, parameters_of, is_in_range, is_zero, count_of, has_64_bits, value_after}
 use Rattle.f77_meaning.proofs.Frames.{Begins}

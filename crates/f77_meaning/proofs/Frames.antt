@@ -1,5 +1,5 @@
 -- A frame of a sound program is at a statement after each step, in the range of each active loop.
-use Rattle.std.proofs.Common.{◌≡◌, ◌≢◌, ℕ, suc, ◌+◌, ◌-◌, ◌<◌, ◌≤◌, ◌^◌, ◌==◌, List, [], ◌∷◌, All, length, Option, None, Some, IsSome, IsTrue, refl, sym, ap, subst, ◌∙◌, arith, slice_get, Bool, true, false, cond}
+use Rattle.std.proofs.Common.{◌≡◌, ◌≢◌, ℕ, suc, ◌+◌, ◌-◌, ◌<◌, ◌≤◌, ◌^◌, ◌==◌, List, [], ◌∷◌, length, Option, Some, IsSome, IsTrue, refl, sym, ap, subst, ◌∙◌, arith, slice_get, Bool, true, false, cond}
 use Rattle.std.specs.Prelude.{nat_lt}
 use Rattle.f77_ast.specs.declared.program.Listed.{Listed}
 use Rattle.f77_ast.specs.declared.program.Loop.{Loop}
@@ -10,8 +10,8 @@ use Rattle.f77_structure.specs.Units.{statement_number, listing_of, EndsWithEnd}
 use Rattle.f77_structure.proofs.Loops.{range_of_loop}
 use Rattle.f77_structure.proofs.UnitLemmas.{goes_on, terminal_goes_on, after_in, of_unit, stands_before}
 use Rattle.f77_meaning.specs.Do.{Begun, active_from, has_64_bits, turned, value_after}
-use Rattle.f77_meaning.specs.Process.{ActiveLoop, Frame, Stage, at_statement, at_increment, come_to}
-use Rattle.f77_meaning.specs.Sound.{AreActive, NumbersFit, IsActive, IsFrame, FitsStage, IsSound}
+use Rattle.f77_meaning.specs.Process.{ActiveLoop, Frame, at_statement, at_increment, come_to}
+use Rattle.f77_meaning.specs.Sound.{AreActive, NumbersFit, IsActive, IsFrame, IsSound}
 use Rattle.f77_meaning.specs.Step.{is_terminal, loop_of_do, past, past_do, past_increment}
 
 -- a statement is there where one is found

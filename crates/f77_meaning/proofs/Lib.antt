@@ -1,5 +1,10 @@
+pub mod Accumulations
 pub mod Begins
+pub mod Demands
+pub mod Evaluations
 pub mod Frames
+pub mod Held
+pub mod Marks
 pub mod Runs
 pub mod Short
 pub mod Sound

@@ -1,10 +1,8 @@
 -- Which programs are sound.
-use Rattle.std.proofs.Common.{◌≡◌, ℕ, zero, suc, ◌+◌, ◌<◌, ◌^◌, length, List, [], ◌∷◌, ◌++◌, All, refl, sym, subst, arith, slice_get, IsSome, IsTrue, Some, true, not, cond}
+use Rattle.std.proofs.Common.{◌≡◌, ℕ, zero, suc, ◌+◌, ◌<◌, ◌^◌, length, List, [], ◌∷◌, All, refl, sym, subst, arith, slice_get, IsSome, IsTrue, Some, true, not, cond}
 use Rattle.f77_ast.specs.declared.program.Layout.{Layout}
-use Rattle.f77_ast.specs.declared.program.Listed.{Listed}
 use Rattle.f77_ast.specs.declared.program.Program.{Program}
 use Rattle.f77_ast.specs.declared.program.Unit.{Unit as ProgramUnit}
-use Rattle.f77_ast.specs.declared.stmt.Stmt.{End}
 use Rattle.f77_structure.specs.Loops.{loops_of}
 use Rattle.f77_structure.specs.Units.{statement_count, EndsWithEnd, is_main, main_unit}
 use Rattle.f77_structure.specs.Ranges.{RangesNest}
@@ -31,13 +29,13 @@ resolved_of_one layout main resolved (suc u) unit e = absurd (cc)
 main_of_one : (main : ProgramUnit) → is_main main.listing ≡ true → IsSome (slice_get (main ∷ []) (main_unit (main ∷ [])))
 main_of_one main e = subst (λ b. IsSome (slice_get (main ∷ []) (cond (not b) (1 + 0) 0))) (sym e) refl
 
--- a program of one unit, the main one, is sound, where its last statement is END, all its statements have a meaning, its entities lie in storage, its loops are those of its DO statements, their ranges nest, and its statements are counted with 32 bits
-pub one_unit_is_sound : (program : Program) (main : ProgramUnit) (before : List Listed) (last : Listed) → program.units ≡ main ∷ [] → is_main main.listing ≡ true → main.listing ≡ before ++ last ∷ [] → last.stmt ≡ End → All (λ listed. IsTrue (statement_has_meaning program.layout 0 listed.stmt)) main.listing → IsStorage program.layout → program.loops ≡ loops_of program.units → RangesNest main.listing → length main.listing + 1 < 2 ^ 32 → IsSound program
-one_unit_is_sound program main before last units mains listing ends resolved storage loops ranges few =
+-- a program of one unit, the main one, is sound, where its last statement is END and no other is, all its statements have a meaning, its entities lie in storage, its loops are those of its DO statements, their ranges nest, and its statements are counted with 32 bits
+pub one_unit_is_sound : (program : Program) (main : ProgramUnit) → program.units ≡ main ∷ [] → is_main main.listing ≡ true → EndsWithEnd main.listing → All (λ listed. IsTrue (statement_has_meaning program.layout 0 listed.stmt)) main.listing → IsStorage program.layout → program.loops ≡ loops_of program.units → RangesNest main.listing → length main.listing + 1 < 2 ^ 32 → IsSound program
+one_unit_is_sound program main units mains ended resolved storage loops ranges few =
     record {
       main = subst (λ us. IsSome (slice_get us (main_unit us))) (sym units) (main_of_one main mains);
       ended = subst (All (λ unit. EndsWithEnd unit.listing)) (sym units)
-          (all_of_one (λ unit. EndsWithEnd unit.listing) main (record { before = before; last = last; joined = listing; is_end = ends }));
+          (all_of_one (λ unit. EndsWithEnd unit.listing) main ended);
       meaning = subst (Resolved program.layout) (sym units) (resolved_of_one program.layout main resolved);
       storage = storage;
       loops = loops;

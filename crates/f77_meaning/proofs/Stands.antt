@@ -1,7 +1,6 @@
 -- After each step of a process of a sound program, the process is one of the program.
-use Rattle.std.proofs.Common.{◌≡◌, ◌≢◌, ℕ, zero, suc, ◌+◌, ◌==◌, ◌≤◌, ℤ, List, [], ◌∷◌, ◌++◌, All, length, Option, None, Some, IsSome, IsTrue, refl, sym, ap, subst, ◌∙◌, arith, slice_get, Bool, true, false, cond}
+use Rattle.std.proofs.Common.{◌≡◌, ◌≢◌, ℕ, zero, suc, ◌+◌, ◌==◌, ◌≤◌, ℤ, List, [], ◌∷◌, ◌++◌, All, length, Option, None, Some, IsSome, IsTrue, refl, sym, ap, subst, arith, slice_get, Bool, true, false, cond}
 use Rattle.std.specs.Prelude.{nat_lt}
-use Rattle.hyb_base.specs.declared.ops.RedOp.{RedOp}
 use Rattle.f77_ast.specs.Limits.{most_line_bytes}
 use Rattle.f77_ast.specs.declared.program.Listed.{Listed}
 use Rattle.f77_ast.specs.declared.program.Loop.{Loop}
@@ -17,13 +16,13 @@ use Rattle.f77_meaning.specs.Assign.{Written, written_of}
 use Rattle.f77_meaning.specs.Demand.{Demand, gives, wants, calls, fails, setting_of}
 use Rattle.f77_meaning.specs.Do.{Begun, begun_of, active_from, turned}
 use Rattle.f77_meaning.specs.Print.{Printed, asks, enters, whole, stops, printed_of}
-use Rattle.f77_meaning.specs.Process.{ActiveLoop, Frame, come_to, Process, Stage, at_statement, at_inner, at_entry, at_increment, first_frame, first_process, is_blocked, listed_of, with_answer, with_done}
+use Rattle.f77_meaning.specs.Process.{ActiveLoop, Frame, come_to, Process, Stage, at_statement, at_inner, at_entry, at_increment, first_process, is_blocked, listed_of, with_answer, with_done}
 use Rattle.f77_meaning.specs.Sound.{AreActive, AreFrames, FitsStage, IsFrame, IsOf, IsSound}
-use Rattle.f77_meaning.specs.Step.{Move, reading, writing, taking, moving, printing, ending, failing, begin_move, do_move, frames_move, increment_move, is_terminal, listed_move, loop_of_do, move_of, once_done, past, past_do, past_increment, past_statement, print_move, resumed, stage_move, statement_move, write_move, unless_blocked, resumed_by}
+use Rattle.f77_meaning.specs.Step.{Move, reading, writing, taking, moving, printing, ending, failing, do_move, frames_move, increment_move, is_terminal, listed_move, loop_of_do, move_of, past, past_do, past_increment, past_statement, print_move, resumed, stage_move, statement_move, write_move, unless_blocked, resumed_by}
 use Rattle.f77_io.specs.Number.{Taken, number, none, taken_of}
 use Rattle.f77_meaning.specs.StepOutcome.{on_input, taken_move}
 use Rattle.f77_meaning.proofs.Begins.{begins_of}
-use Rattle.f77_meaning.proofs.Frames.{is_some, past_is_frame, past_do_is_frame, past_increment_is_frame}
+use Rattle.f77_meaning.proofs.Frames.{past_is_frame, past_do_is_frame, past_increment_is_frame}
 use Rattle.f77_meaning.proofs.Short.{IsShort, printed_short}
 
 -- frames that a process goes on with: there is a last one, and all are of the program

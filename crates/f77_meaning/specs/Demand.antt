@@ -1,7 +1,7 @@
 -- The value of an expression, from the values of the addresses that it reads (ANSI X3.9-1978, section 6).
 -- It is evaluated from left to right. Each value that it reads is taken in turn from a list of answers: where the list
 -- is too short, the evaluation asks for the address that it reads next.
-use Rattle.std.specs.Prelude.{ℕ, zero, suc, ◌+◌, ℤ, pos, List, [], ◌∷◌, Option, None, Some, if◌then◌else◌}
+use Rattle.std.specs.Prelude.{ℕ, zero, suc, ◌+◌, ℤ, pos, List, [], ◌∷◌, Option, None, Some}
 use Rattle.hyb_base.specs.declared.ops.RedOp.{RedOp}
 use Rattle.f77_ast.specs.declared.expr.Kind.{Kind}
 use Rattle.f77_ast.specs.declared.expr.Kind.TheVariants as kind

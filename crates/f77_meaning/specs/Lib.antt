@@ -8,3 +8,4 @@ pub mod Process
 pub mod Run
 pub mod Sound
 pub mod Step
+pub mod Laws

@@ -1,9 +1,9 @@
 -- A process: where control is in a program, and what is known there (ANSI X3.9-1978, sections 7.1, 11.10, 12.8.2.3 and 15.9).
-use Rattle.std.specs.Prelude.{ℕ, ◌==◌, ◌||◌, ℤ, Bool, List, [], ◌∷◌, ◌++◌, length, Option, None, Some}
+use Rattle.std.specs.Prelude.{ℕ, ◌==◌, ◌||◌, ℤ, Bool, List, [], ◌∷◌, ◌++◌, Option, None}
 use Rattle.std.specs.List.{list_any}
 use Rattle.f77_ast.specs.declared.program.Listed.{Listed}
 use Rattle.f77_ast.specs.declared.program.Program.{Program}
-use Rattle.f77_structure.specs.Units.{listing_of, first_executable, main_unit, statement_at, source_line}
+use Rattle.f77_structure.specs.Units.{listing_of, first_executable, main_unit, statement_at}
 use Rattle.f77_structure.specs.Values.{Value}
 
 -- what a dummy argument is bound to (section 15.9.3): to a place, by its first address, the number of the region of the

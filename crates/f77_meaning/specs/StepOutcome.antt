@@ -1,7 +1,6 @@
 -- One step over a store and an input: what a process does next, answered by them.
-use Rattle.std.specs.Prelude.{ℕ, ℤ, pos, Bool, List, [], None, slice_index_or, slice_set, if◌then◌else◌}
+use Rattle.std.specs.Prelude.{ℕ, ℤ, pos, Bool, List, [], None, slice_index_or, slice_set}
 use Rattle.hyb_base.specs.Count.{next_count}
-use Rattle.f77_ast.specs.declared.fault.Fault.TheVariants.{DoVariableWritten}
 use Rattle.f77_ast.specs.declared.program.Program.{Program}
 use Rattle.f77_ast.specs.declared.step.Stepped.{Stepped}
 use Rattle.f77_ast.specs.declared.step.Stepped.TheVariants.{Read, Wrote, Inner, Printed, Ended, Faulted}

@@ -2,3 +2,5 @@
 //!
 //! The definitions are in `specs/`. Everything that speaks of runs cites them.
 #![tactic(auto)]
+
+pub mod laws;

@@ -1,4 +1,5 @@
 -- Where the limit is passed, unit by unit and statement by statement.
+use Rattle.f77_ast.specs.Limits.{most_operands}
 use Rattle.std.proofs.Common.{◌≡◌, ℕ, ◌+◌, ◌<◌, ◌≤◌, max, Bool, true, false, cond, List, [], ◌∷◌, ◌++◌, Option, None, Some, option_map, refl, ap, ◌∙◌, subst, arith}
 use Rattle.std.proofs.lemmas.Bool.Decides.{nat_tests}
 use Rattle.std.proofs.lemmas.List.Sums.{sum_by-cons}
@@ -26,18 +27,18 @@ greatest_cons x listing = let here = greatest_from (max 0 (need_of x.stmt)) list
 
 -- ---- a unit
 
-accepted_step : (others : ℕ) (x : Listed) (listing : List Listed) (past : Bool) → is_past others x ≡ past → (unit_refusal others listing ≡ None → others + greatest_need listing ≤ 32768) → option_map too_many (cond past (Some x) (find (is_past others) listing)) ≡ None → others + greatest_need (x ∷ listing) ≤ 32768
+accepted_step : (others : ℕ) (x : Listed) (listing : List Listed) (past : Bool) → is_past others x ≡ past → (unit_refusal others listing ≡ None → others + greatest_need listing ≤ most_operands) → option_map too_many (cond past (Some x) (find (is_past others) listing)) ≡ None → others + greatest_need (x ∷ listing) ≤ most_operands
 accepted_step others x listing true e ih h = cc
 accepted_step others x listing false e ih h =
     let rest = ih h in
     let greatest = greatest_cons x listing in
     grind (arith, nat_tests)
 
-unit_within : (others : ℕ) (listing : List Listed) → others ≤ 32768 → unit_refusal others listing ≡ None → others + greatest_need listing ≤ 32768
+unit_within : (others : ℕ) (listing : List Listed) → others ≤ most_operands → unit_refusal others listing ≡ None → others + greatest_need listing ≤ most_operands
 unit_within others [] few h = omega arith
 unit_within others (x ∷ listing) few h = accepted_step others x listing (is_past others x) refl (unit_within others listing few) h
 
-within_step : (others : ℕ) (x : Listed) (listing : List Listed) (past : Bool) → is_past others x ≡ past → (others + greatest_need listing ≤ 32768 → unit_refusal others listing ≡ None) → others + greatest_need (x ∷ listing) ≤ 32768 → option_map too_many (cond past (Some x) (find (is_past others) listing)) ≡ None
+within_step : (others : ℕ) (x : Listed) (listing : List Listed) (past : Bool) → is_past others x ≡ past → (others + greatest_need listing ≤ most_operands → unit_refusal others listing ≡ None) → others + greatest_need (x ∷ listing) ≤ most_operands → option_map too_many (cond past (Some x) (find (is_past others) listing)) ≡ None
 within_step others x listing true e ih h =
     let greatest = greatest_cons x listing in
     grind (arith, nat_tests)
@@ -45,7 +46,7 @@ within_step others x listing false e ih h =
     let greatest = greatest_cons x listing in
     ih (omega arith)
 
-unit_accepted : (others : ℕ) (listing : List Listed) → others + greatest_need listing ≤ 32768 → unit_refusal others listing ≡ None
+unit_accepted : (others : ℕ) (listing : List Listed) → others + greatest_need listing ≤ most_operands → unit_refusal others listing ≡ None
 unit_accepted others [] h = refl
 unit_accepted others (x ∷ listing) h = within_step others x listing (is_past others x) refl (unit_accepted others listing) h
 
@@ -62,7 +63,7 @@ none_right : {A : Type 0} (a b : Option A) → option_or a b ≡ None → b ≡ 
 none_right None b h = h
 none_right (Some x) b h = cc
 
-file_within : (others : ℕ) (units : List ProgramUnit) → others ≤ 32768 → refusal_from others units ≡ None → others + needs_of units ≤ 32768
+file_within : (others : ℕ) (units : List ProgramUnit) → others ≤ most_operands → refusal_from others units ≡ None → others + needs_of units ≤ most_operands
 file_within others [] few h = omega arith
 file_within others (unit ∷ units) few h =
     let rest = refusal_from (others + greatest_need unit.listing) units in
@@ -71,7 +72,7 @@ file_within others (unit ∷ units) few h =
     let behind = file_within (others + greatest_need unit.listing) units here (none_right (unit_refusal others unit.listing) rest h) in
     omega arith
 
-file_accepted : (others : ℕ) (units : List ProgramUnit) → others + needs_of units ≤ 32768 → refusal_from others units ≡ None
+file_accepted : (others : ℕ) (units : List ProgramUnit) → others + needs_of units ≤ most_operands → refusal_from others units ≡ None
 file_accepted others [] h = refl
 file_accepted others (unit ∷ units) h =
     let all = needs_cons unit units in
@@ -82,10 +83,10 @@ file_accepted others (unit ∷ units) h =
 pub accepted_within : AcceptedWithinTheLimit
 accepted_within units = (within, accepted)
   where
-    within : operand_refusal units ≡ None → needs_of units ≤ 32768
+    within : operand_refusal units ≡ None → needs_of units ≤ most_operands
     within h = let all = file_within 0 units (omega arith) h in omega arith
 
-    accepted : needs_of units ≤ 32768 → operand_refusal units ≡ None
+    accepted : needs_of units ≤ most_operands → operand_refusal units ≡ None
     accepted h = file_accepted 0 units (omega arith)
 
 -- ---- where a file is refused
@@ -96,11 +97,11 @@ record PassesIn (others : ℕ) (listing : List Listed) (refusal : Refusal) : Typ
   listed : Listed
   later : List Listed
   its_place : listing ≡ earlier ++ listed ∷ later
-  without : others + greatest_need earlier ≤ 32768
-  with_it : 32768 < others + greatest_need (earlier ++ listed ∷ [])
+  without : others + greatest_need earlier ≤ most_operands
+  with_it : most_operands < others + greatest_need (earlier ++ listed ∷ [])
   code : refusal ≡ too_many listed
 
-passes_step : (others : ℕ) (x : Listed) (listing : List Listed) (refusal : Refusal) (past : Bool) → is_past others x ≡ past → others ≤ 32768 → (unit_refusal others listing ≡ Some refusal → PassesIn others listing refusal) → option_map too_many (cond past (Some x) (find (is_past others) listing)) ≡ Some refusal → PassesIn others (x ∷ listing) refusal
+passes_step : (others : ℕ) (x : Listed) (listing : List Listed) (refusal : Refusal) (past : Bool) → is_past others x ≡ past → others ≤ most_operands → (unit_refusal others listing ≡ Some refusal → PassesIn others listing refusal) → option_map too_many (cond past (Some x) (find (is_past others) listing)) ≡ Some refusal → PassesIn others (x ∷ listing) refusal
 passes_step others x listing refusal true e few ih h = record {
   earlier = [];
   listed = x;
@@ -124,7 +125,7 @@ passes_step others x listing refusal false e few ih h =
       code = rest.code;
     }
 
-unit_passes : (others : ℕ) (listing : List Listed) (refusal : Refusal) → others ≤ 32768 → unit_refusal others listing ≡ Some refusal → PassesIn others listing refusal
+unit_passes : (others : ℕ) (listing : List Listed) (refusal : Refusal) → others ≤ most_operands → unit_refusal others listing ≡ Some refusal → PassesIn others listing refusal
 unit_passes others [] refusal few h = cc
 unit_passes others (x ∷ listing) refusal few h = passes_step others x listing refusal (is_past others x) refl few (unit_passes others listing refusal few) h
 
@@ -136,7 +137,7 @@ record PassesFrom (others : ℕ) (units : List ProgramUnit) (refusal : Refusal) 
   its_unit : units ≡ before ++ unit ∷ after
   here : PassesIn (others + needs_of before) unit.listing refusal
 
-file_step : (others : ℕ) (unit : ProgramUnit) (units : List ProgramUnit) (refusal : Refusal) (first : Option Refusal) → unit_refusal others unit.listing ≡ first → others ≤ 32768 → (others + greatest_need unit.listing ≤ 32768 → refusal_from (others + greatest_need unit.listing) units ≡ Some refusal → PassesFrom (others + greatest_need unit.listing) units refusal) → option_or first (refusal_from (others + greatest_need unit.listing) units) ≡ Some refusal → PassesFrom others (unit ∷ units) refusal
+file_step : (others : ℕ) (unit : ProgramUnit) (units : List ProgramUnit) (refusal : Refusal) (first : Option Refusal) → unit_refusal others unit.listing ≡ first → others ≤ most_operands → (others + greatest_need unit.listing ≤ most_operands → refusal_from (others + greatest_need unit.listing) units ≡ Some refusal → PassesFrom (others + greatest_need unit.listing) units refusal) → option_or first (refusal_from (others + greatest_need unit.listing) units) ≡ Some refusal → PassesFrom others (unit ∷ units) refusal
 file_step others unit units refusal None e few ih h =
     let rest : PassesFrom (others + greatest_need unit.listing) units refusal = ih (unit_within others unit.listing few e) h in
     let all = needs_cons unit rest.before in
@@ -158,7 +159,7 @@ file_step others unit units refusal (Some found) e few ih h =
       here = subst (λ (n : ℕ). PassesIn n unit.listing refusal) none (unit_passes others unit.listing refusal few (e ∙ h));
     }
 
-file_passes : (others : ℕ) (units : List ProgramUnit) (refusal : Refusal) → others ≤ 32768 → refusal_from others units ≡ Some refusal → PassesFrom others units refusal
+file_passes : (others : ℕ) (units : List ProgramUnit) (refusal : Refusal) → others ≤ most_operands → refusal_from others units ≡ Some refusal → PassesFrom others units refusal
 file_passes others [] refusal few h = cc
 file_passes others (unit ∷ units) refusal few h =
     file_step others unit units refusal (unit_refusal others unit.listing) refl few (file_passes (others + greatest_need unit.listing) units refusal) h

@@ -1,4 +1,5 @@
 -- What the limit comes to.
+use Rattle.f77_ast.specs.Limits.{most_operands}
 use Rattle.std.specs.Prelude.{◌≡◌, ◌↔◌, ◌≤◌, ◌<◌, ℕ, ◌+◌, List, [], ◌∷◌, ◌++◌, None, Some, sum_by}
 use Rattle.f77_ast.specs.declared.program.Listed.{Listed}
 use Rattle.f77_ast.specs.declared.program.Unit.{Unit as ProgramUnit}
@@ -9,9 +10,9 @@ use Rattle.f77_operands.specs.Limit.{greatest_need, too_many, operand_refusal}
 abbrev pub needs_of : List ProgramUnit → ℕ
 needs_of units = sum_by (λ unit. greatest_need unit.listing) units
 
--- a file is accepted exactly where the greatest needs of its units come to 32,768 at most
+-- a file is accepted exactly where the greatest needs of its units come to no more than there may be
 abbrev pub AcceptedWithinTheLimit : Type 0
-AcceptedWithinTheLimit = (units : List ProgramUnit) → (operand_refusal units ≡ None) ↔ (needs_of units ≤ 32768)
+AcceptedWithinTheLimit = (units : List ProgramUnit) → (operand_refusal units ≡ None) ↔ (needs_of units ≤ most_operands)
 
 -- a refused statement: with it the needs of the units so far come to more than the limit, and without it they don't
 pub record PassesTheLimit (units : List ProgramUnit) (refusal : Refusal) : Type 0 where
@@ -23,8 +24,8 @@ pub record PassesTheLimit (units : List ProgramUnit) (refusal : Refusal) : Type 
   pub later : List Listed
   pub its_unit : units ≡ before ++ unit ∷ after
   pub its_place : unit.listing ≡ earlier ++ listed ∷ later
-  pub without : needs_of before + greatest_need earlier ≤ 32768
-  pub with_it : 32768 < needs_of before + greatest_need (earlier ++ listed ∷ [])
+  pub without : needs_of before + greatest_need earlier ≤ most_operands
+  pub with_it : most_operands < needs_of before + greatest_need (earlier ++ listed ∷ [])
   pub code : refusal ≡ too_many listed
 
 abbrev pub RefusedWhereTheLimitIsPassed : Type 0

@@ -3,17 +3,16 @@ ghost use Rattle.std.specs.Prelude.{◌≡◌, ◌+◌, length};
 ghost use Rattle.f77_operands.specs.Capped.{capped};
 ghost use Rattle.f77_structure.specs.Needs.{one_if};
 
-/// The greatest number of operands of a file.
-pub const MOST_OPERANDS: u32 = 32_768;
+use f77_ast::limits::MOST_OPERANDS;
 
-/// The sum of two numbers, or 32,769 where it is more.
+/// The sum of two numbers, or MOST_OPERANDS + 1 where it is more.
 pub fn plus(one: u32, other: u32) -> u32
     ensures { result ≡ capped (one + other) }
 {
     one.saturating_add(other).min(MOST_OPERANDS + 1)
 }
 
-/// The number of items of a list, or 32,769 where it is more.
+/// The number of items of a list, or MOST_OPERANDS + 1 where it is more.
 pub fn count<T>(list: &[T]) -> u32
     ensures { result ≡ capped (length list.now) }
 {

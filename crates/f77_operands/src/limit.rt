@@ -1,19 +1,19 @@
 //! The limit on the operands of a program; it is this project's own.
+ghost use Rattle.f77_ast.specs.Limits.{most_operands};
 ghost use Rattle.std.specs.Prelude.{◌≡◌, ◌≤◌, ◌+◌, Some, nat_lt, IfOk, IfErr};
 ghost use Rattle.f77_operands.specs.Capped.{IsWithin};
 ghost use Rattle.f77_operands.specs.Limit.{too_many, unit_refusal, operand_refusal};
 
-use crate::capped::{MOST_OPERANDS, plus};
+use crate::capped::plus;
 use crate::needs::operand_need;
+use f77_ast::limits::MOST_OPERANDS;
 use f77_ast::program::{Listed, Unit};
 use f77_ast::refusal::Refusal;
-
-/// The code of a file with too many operands.
-const SIZE_LIMIT: u8 = 56;
+use f77_ast::rule::Rule;
 
 /// Whether the limit is passed at a statement of this need, where the needs of the units before it add up to `others`.
 fn is_past(others: u32, need: u32) -> bool
-    ensures { result ≡ nat_lt 32768 (others + need) }
+    ensures { result ≡ nat_lt most_operands (others + need) }
 {
     plus(others, need) > MOST_OPERANDS
 }
@@ -22,16 +22,13 @@ fn is_past(others: u32, need: u32) -> bool
 fn too_many(listed: &Listed) -> Refusal
     ensures { result ≡ too_many listed.now }
 {
-    Refusal {
-        line: listed.card.line,
-        code: SIZE_LIMIT,
-    }
+    Refusal::new(listed.card.line, Rule::SizeLimit)
 }
 
 /// The need of a unit, or the refusal of its first statement at which the limit is passed, where the needs of the units
 /// before it add up to `others`.
 fn unit_need(others: u32, listing: &[Listed]) -> Result<u32, Refusal>
-    requires { others ≤ 32768 }
+    requires { others ≤ most_operands }
     ensures within { IfOk result (λ need. IsWithin others listing.now need) }
     ensures past { IfErr result (λ refusal. unit_refusal others listing.now ≡ Some refusal) }
 {
@@ -46,7 +43,7 @@ fn unit_need(others: u32, listing: &[Listed]) -> Result<u32, Refusal>
     Ok(greatest)
 }
 
-/// Code 56: the first statement of a file at which the greatest needs of its units by now add up to more than 32,768.
+/// SizeLimit: the first statement of a file at which the greatest needs of its units by now add up to more than there may be.
 pub fn too_many_operands(units: &[Unit]) -> Option<Refusal>
     ensures value { result ≡ operand_refusal units.now }
 {

@@ -272,7 +272,7 @@ impl Counted for DataGroup {
     }
 }
 
-/// The number of literals, names and references of a statement, or 32,769 where it has more than 32,768.
+/// The number of literals, names and references of a statement, or 32,769 where it has more than there may be.
 pub fn operand_need(stmt: &Stmt) -> u32
     ensures { result ≡ capped (need_of stmt.now) }
 {

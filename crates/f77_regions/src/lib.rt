@@ -1,6 +1,6 @@
 //! Iterations of DO loops as processes of the abstract machine of `interleaving`, and what the laws there say of them.
 //!
-//! `f77_meaning` marks no access as one of an accumulation yet, so its machine reduces nothing, and the operators may be any.
+//! The operators are those of accumulations, with what they give and begin with as `hyb_base` says.
 #![tactic(auto)]
 
 ghost use Rattle.f77_regions.specs.Iterations.{LoopsAreMachines, RegionsHold};

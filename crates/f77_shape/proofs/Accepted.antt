@@ -1,14 +1,17 @@
 -- What every accepted file satisfies.
+use Rattle.f77_ast.specs.declared.rule.Rule.{Rule}
+use Rattle.f77_ast.specs.declared.rule.Rule.TheVariants.{DoNesting, DoubleLabel, IfNesting, JumpIntoRange, LabelMissing, SizeLimit, StatementOrder}
 use Rattle.std.proofs.Common.{◌≡◌, ◌≢◌, ℕ, zero, suc, ◌+◌, ◌<◌, ◌≤◌, Bool, true, false, not, ◌&&◌, ◌||◌, nat_lt, List, [], ◌∷◌, ◌++◌, map, length, drop, Option, None, Some, Ok, if◌then◌else◌, refl, sym, ap, ◌∙◌, subst, arith, slice_get, length-append}
 use Rattle.std.proofs.lemmas.Bool.Decides.{nat_tests}
 use Rattle.std.proofs.lemmas.List.Elements.{All-cons}
 use Rattle.std.specs.Prelude.{All}
 use Rattle.std.specs.List.{flat_map, list_any}
 use Rattle.std.specs.Option.{option_to_list, option_and_then}
+use Rattle.f77_ast.specs.Limits.{most_statements, most_units}
 use Rattle.f77_ast.specs.declared.program.Listed.{Listed}
 use Rattle.f77_ast.specs.declared.program.Unit.{Unit as ProgramUnit}
 use Rattle.f77_ast.specs.declared.refusal.Refusal.{Refusal}
-use Rattle.f77_cards.specs.Cards.{when, first_of}
+use Rattle.f77_ast.specs.Refusal.{when, first_of}
 use Rattle.f77_structure.specs.Labels.{has_label, distance_to, target_from, target_in}
 use Rattle.f77_structure.specs.Statements.{terminal_label, is_end}
 use Rattle.f77_structure.specs.Units.{statement_count, onto_first, cut, unit_of, units_of}
@@ -60,17 +63,17 @@ pub kept_when : (b : Bool) (r : Refusal) → when b r ≡ [] → b ≡ false
 kept_when true r e = absurd cc
 kept_when false r e = refl
 
-kept : (code : ℕ) (rule : ℕ → Listed → List Listed → Bool) (place : ℕ) (unit : List Listed) → broken_by code rule place unit ≡ [] → (k : ℕ) (x : Listed) → slice_get unit k ≡ Some x → rule (place + k) x (drop (suc k) unit) ≡ false
-kept code rule place [] e k x h = absurd cc
-kept code rule place (y ∷ unit) e zero x h =
+kept : (rule : Rule) (breaking : ℕ → Listed → List Listed → Bool) (place : ℕ) (unit : List Listed) → broken_by rule breaking place unit ≡ [] → (k : ℕ) (x : Listed) → slice_get unit k ≡ Some x → breaking (place + k) x (drop (suc k) unit) ≡ false
+kept rule breaking place [] e k x h = absurd cc
+kept rule breaking place (y ∷ unit) e zero x h =
     let same : y ≡ x = cc in
-    let here : rule place y unit ≡ false = kept_when (rule place y unit) (at y code) (left_none (when (rule place y unit) (at y code)) (broken_by code rule (suc place) unit) e) in
+    let here : breaking place y unit ≡ false = kept_when (breaking place y unit) (at y rule) (left_none (when (breaking place y unit) (at y rule)) (broken_by rule breaking (suc place) unit) e) in
     let n : place + 0 ≡ place = omega arith in
-    ap (λ m. rule m x unit) n ∙ ap (λ z. rule place z unit) (sym same) ∙ here
-kept code rule place (y ∷ unit) e (suc k) x h =
-    let rest = kept code rule (suc place) unit (right_none (when (rule place y unit) (at y code)) (broken_by code rule (suc place) unit) e) k x h in
+    ap (λ m. breaking m x unit) n ∙ ap (λ z. breaking place z unit) (sym same) ∙ here
+kept rule breaking place (y ∷ unit) e (suc k) x h =
+    let rest = kept rule breaking (suc place) unit (right_none (when (breaking place y unit) (at y rule)) (broken_by rule breaking (suc place) unit) e) k x h in
     let n : place + suc k ≡ suc place + k = omega arith in
-    ap (λ m. rule m x (drop (suc k) unit)) n ∙ rest
+    ap (λ m. breaking m x (drop (suc k) unit)) n ∙ rest
 
 -- ---- labels
 
@@ -128,10 +131,10 @@ kept_by unit place label (Some target) e f =
     let test : nat_lt place target ≡ true = both.0 in
     record { target = target; found = e; behind = grind (arith, nat_tests); may = both.1; apart = parts.1 }
 
-do_kept : (unit : List Listed) (place label : ℕ) → broken_by 52 (breaks_range unit) 0 unit ≡ [] → IsDo unit place label → Kept unit place label
+do_kept : (unit : List Listed) (place label : ℕ) → broken_by DoNesting (breaks_range unit) 0 unit ≡ [] → IsDo unit place label → Kept unit place label
 do_kept unit place label none d =
     let n : 0 + place ≡ place = omega arith in
-    let false_here : breaks_range unit place d.listed (drop (suc place) unit) ≡ false = ap (λ m. breaks_range unit m d.listed (drop (suc place) unit)) (sym n) ∙ kept 52 (breaks_range unit) 0 unit none place d.listed d.stands in
+    let false_here : breaks_range unit place d.listed (drop (suc place) unit) ≡ false = ap (λ m. breaks_range unit m d.listed (drop (suc place) unit)) (sym n) ∙ kept DoNesting (breaks_range unit) 0 unit none place d.listed d.stands in
     kept_by unit place label (target_in label unit) refl (ap (breaks_with unit place) (sym d.names) ∙ false_here)
 
 range_by : (unit : List Listed) (place label : ℕ) (o : Option Listed) → slice_get unit (terminal_at unit place label) ≡ o → may_end o ≡ true → HasRange unit place label
@@ -188,7 +191,7 @@ range_here unit place label target x names found behind =
 not_crossing : (outer inner first last : ℕ) → crosses (record { opens = outer; last = first }) (record { opens = inner; last = last }) ≡ false → outer < inner → inner ≤ first → last ≤ first
 not_crossing outer inner first last e h k = grind (arith, nat_tests)
 
-nested_ranges : (unit : List Listed) → broken_by 52 (breaks_range unit) 0 unit ≡ [] → (outer inner named label : ℕ) → IsDo unit outer named → IsDo unit inner label → outer < inner → inner ≤ terminal_at unit outer named → terminal_at unit inner label ≤ terminal_at unit outer named
+nested_ranges : (unit : List Listed) → broken_by DoNesting (breaks_range unit) 0 unit ≡ [] → (outer inner named label : ℕ) → IsDo unit outer named → IsDo unit inner label → outer < inner → inner ≤ terminal_at unit outer named → terminal_at unit inner label ≤ terminal_at unit outer named
 nested_ranges unit none outer inner named label o i less within =
     let ko : Kept unit outer named = do_kept unit outer named none o in
     let ki : Kept unit inner label = do_kept unit inner label none i in
@@ -204,13 +207,13 @@ nested_ranges unit none outer inner named label o i less within =
 
 unit_nests : (unit : List Listed) → breaks_in unit ≡ [] → RangesNest unit
 unit_nests unit none =
-    let a = broken_by 50 (misses_label unit) 0 unit in
-    let b = broken_by 51 (doubles_label unit) 0 unit in
-    let d = broken_by 52 (breaks_range unit) 0 unit in
-    let e = broken_by 53 (is_misplaced_part unit) 0 unit in
-    let f = broken_by 53 is_unended 0 unit in
-    let g = broken_by 55 (jumps_in unit) 0 unit in
-    let h = broken_by 57 (is_out_of_order unit) 0 unit in
+    let a = broken_by LabelMissing (misses_label unit) 0 unit in
+    let b = broken_by DoubleLabel (doubles_label unit) 0 unit in
+    let d = broken_by DoNesting (breaks_range unit) 0 unit in
+    let e = broken_by IfNesting (is_misplaced_part unit) 0 unit in
+    let f = broken_by IfNesting is_unended 0 unit in
+    let g = broken_by JumpIntoRange (jumps_in unit) 0 unit in
+    let h = broken_by StatementOrder (is_out_of_order unit) 0 unit in
     let six : a ++ b ++ d ++ e ++ f ++ g ≡ [] = left_none (a ++ b ++ d ++ e ++ f ++ g) h none in
     let five : a ++ b ++ d ++ e ++ f ≡ [] = left_none (a ++ b ++ d ++ e ++ f) g six in
     let four : a ++ b ++ d ++ e ≡ [] = left_none (a ++ b ++ d ++ e) f five in
@@ -268,7 +271,7 @@ no_unit : (o : Option ProgramUnit) → unit_over o ≡ [] → ((u : ProgramUnit)
 no_unit None e h = refl
 no_unit (Some u) e h = by u.listing e (h u refl)
   where
-    by : (l : List Listed) → first_refused 56 l ≡ [] → (l ≡ [] → ⊥) → Some u ≡ None
+    by : (l : List Listed) → first_refused SizeLimit l ≡ [] → (l ≡ [] → ⊥) → Some u ≡ None
     by [] e k = absurd (k refl)
     by (x ∷ l) e k = absurd cc
 
@@ -309,11 +312,11 @@ files_are_small statements units e =
     let three : main_breaks us ++ unit_breaks us ++ name_breaks 0 us ≡ [] = left_none (main_breaks us ++ unit_breaks us ++ name_breaks 0 us) (flat_map (λ unit. breaks_in unit.listing) us) among in
     let two : main_breaks us ++ unit_breaks us ≡ [] = left_none (main_breaks us ++ unit_breaks us) (name_breaks 0 us) three in
     let of_units : unit_breaks us ≡ [] = right_none (main_breaks us) (unit_breaks us) two in
-    let few : length us ≤ 200 = past_end us 200 (no_unit (slice_get us 200) of_units (λ u f. let m = mapped (cut statements) 200 u f in λ none. have_statements statements 200 m.0 m.1 (ap (λ (w : ProgramUnit). w.listing) (sym m.2) ∙ none))) in
+    let few : length us ≤ most_units = past_end us most_units (no_unit (slice_get us most_units) of_units (λ u f. let m = mapped (cut statements) most_units u f in λ none. have_statements statements most_units m.0 m.1 (ap (λ (w : ProgramUnit). w.listing) (sym m.2) ∙ none))) in
     let all : flat_map (λ unit. unit.listing) units ≡ statements = ap (λ (l : List ProgramUnit). flat_map (λ unit. unit.listing) l) (sym n.made) ∙ joined statements in
     record {
       all = all;
       counted = counted_in units ∙ ap length all;
-      few_statements = past_end statements 10000 (no_statement (slice_get statements 10000) (right_none (end_breaks statements) (statement_breaks statements) front));
-      few_units = subst (λ (l : List ProgramUnit). length l ≤ 200) n.made few;
+      few_statements = past_end statements most_statements (no_statement (slice_get statements most_statements) (right_none (end_breaks statements) (statement_breaks statements) front));
+      few_units = subst (λ (l : List ProgramUnit). length l ≤ most_units) n.made few;
     }

@@ -1,13 +1,14 @@
 -- The units of every accepted file: each ends with END, and one is the main unit.
+use Rattle.f77_ast.specs.declared.rule.Rule.TheVariants.{NoProgram}
 use Rattle.std.proofs.Common.{◌≡◌, ◌≢◌, ℕ, zero, suc, ◌-◌, Bool, true, false, not, ◌||◌, ◌==◌, List, [], ◌∷◌, ◌++◌, map, length, Option, None, Some, if◌then◌else◌, refl, sym, ap, ◌∙◌, subst, arith, slice_get}
 use Rattle.std.proofs.lemmas.List.Elements.{All-cons, All-nil}
-use Rattle.std.specs.Prelude.{All}
+use Rattle.std.specs.Prelude.{All, IsFalse}
 use Rattle.std.specs.List.{flat_map, list_any}
 use Rattle.f77_ast.specs.declared.program.Listed.{Listed}
 use Rattle.f77_ast.specs.declared.program.Unit.{Unit as ProgramUnit}
 use Rattle.f77_ast.specs.declared.stmt.Stmt.{Stmt, End}
 use Rattle.f77_ast.specs.declared.stmt.Stmt as stmt
-use Rattle.f77_cards.specs.Cards.{when}
+use Rattle.f77_ast.specs.Refusal.{when}
 use Rattle.f77_structure.specs.Units.{EndsWithEnd, is_main, onto_first, cut, unit_of, units_of}
 use Rattle.f77_shape.specs.Breaks.{at}
 use Rattle.f77_shape.specs.Laws.{AcceptedUnitsEnd, AcceptedFilesHaveOneMain, HasOneMain}
@@ -31,7 +32,7 @@ last_ends (x ∷ y ∷ listing) = last_ends (y ∷ listing)
 
 last_by : (listing : List Listed) → end_breaks_by 2 (slice_get listing (length listing - 1)) ≡ [] → last_ends listing ≡ true
 last_by [] e = refl
-last_by (x ∷ []) e = by (is_end x.stmt) (kept_when (not (is_end x.stmt)) (at x 54) e)
+last_by (x ∷ []) e = by (is_end x.stmt) (kept_when (not (is_end x.stmt)) (at x NoProgram) e)
   where
     by : (b : Bool) → not b ≡ false → b ≡ true
     by true e = refl
@@ -43,9 +44,9 @@ last_by (x ∷ y ∷ listing) e =
 -- the rule, whichever refusal it gives
 whichever : (count : ℕ) (o : Option Listed) → end_breaks_by count o ≡ [] → end_breaks_by 2 o ≡ []
 whichever count None e = refl
-whichever count (Some last) e = by (is_end last.stmt) (kept_when (not (is_end last.stmt)) (if count == 1 then no_program else at last 54) e)
+whichever count (Some last) e = by (is_end last.stmt) (kept_when (not (is_end last.stmt)) (if count == 1 then no_program else at last NoProgram) e)
   where
-    by : (b : Bool) → not b ≡ false → when (not b) (at last 54) ≡ []
+    by : (b : Bool) → not b ≡ false → when (not b) (at last NoProgram) ≡ []
     by true e = refl
     by false e = absurd cc
 
@@ -54,11 +55,15 @@ abbrev AllEnd : List (List Listed) → Type 0
 AllEnd [] = Unit {0}
 AllEnd (unit ∷ units) = EndsWithEnd unit × AllEnd units
 
-onto_ends : (x : Listed) (units : List (List Listed)) → AllEnd units → units ≢ [] → AllEnd (onto_first x units)
-onto_ends x [] ends some = absurd (some refl)
-onto_ends x (unit ∷ units) ends some =
+-- whether a statement isn't END
+abbrev IsNoEnd : Listed → Type 0
+IsNoEnd listed = IsFalse (is_end listed.stmt)
+
+onto_ends : (x : Listed) (units : List (List Listed)) → IsNoEnd x → AllEnd units → units ≢ [] → AllEnd (onto_first x units)
+onto_ends x [] other ends some = absurd (some refl)
+onto_ends x (unit ∷ units) other ends some =
     let e : EndsWithEnd unit = ends.0 in
-    (record { before = x ∷ e.before; last = e.last; joined = ap (λ l. x ∷ l) e.joined; is_end = e.is_end }, ends.1)
+    (record { before = x ∷ e.before; last = e.last; joined = ap (λ l. x ∷ l) e.joined; nowhere_else = All-cons IsNoEnd x e.before other e.nowhere_else; is_end = e.is_end }, ends.1)
 
 onto_some : (x : Listed) (units : List (List Listed)) → onto_first x units ≢ []
 onto_some x [] e = absurd cc
@@ -76,13 +81,13 @@ cut_ends [] e = tt
 cut_ends (x ∷ []) e = by (is_end x.stmt) refl
   where
     by : (b : Bool) → is_end x.stmt ≡ b → AllEnd (if b then (x ∷ []) ∷ [] else onto_first x [])
-    by true f = (record { before = []; last = x; joined = refl; is_end = end_is x.stmt f }, tt)
+    by true f = (record { before = []; last = x; joined = refl; nowhere_else = All-nil IsNoEnd; is_end = end_is x.stmt f }, tt)
     by false f = absurd cc
 cut_ends (x ∷ y ∷ listing) e = by (is_end x.stmt) refl (cut_ends (y ∷ listing) e)
   where
     by : (b : Bool) → is_end x.stmt ≡ b → AllEnd (cut (y ∷ listing)) → AllEnd (if b then (x ∷ []) ∷ cut (y ∷ listing) else onto_first x (cut (y ∷ listing)))
-    by true f rest = (record { before = []; last = x; joined = refl; is_end = end_is x.stmt f }, rest)
-    by false f rest = onto_ends x (cut (y ∷ listing)) rest (cut_some y listing)
+    by true f rest = (record { before = []; last = x; joined = refl; nowhere_else = All-nil IsNoEnd; is_end = end_is x.stmt f }, rest)
+    by false f rest = onto_ends x (cut (y ∷ listing)) f rest (cut_some y listing)
 
 all_end : (units : List (List Listed)) → AllEnd units → All (λ unit. EndsWithEnd unit.listing) (map unit_of units)
 all_end [] ends = All-nil (λ (unit : ProgramUnit). EndsWithEnd unit.listing)
@@ -103,7 +108,7 @@ units_end statements units e =
 abbrev HaveStatements : List ProgramUnit → Type 0
 HaveStatements units = (k : ℕ) (u : ProgramUnit) → slice_get units k ≡ Some u → HasStatement u
 
-first_kept : (listing : List Listed) (b : Bool) → (if b then first_refused 54 listing else []) ≡ [] → listing ≢ [] → b ≡ false
+first_kept : (listing : List Listed) (b : Bool) → (if b then first_refused NoProgram listing else []) ≡ [] → listing ≢ [] → b ≡ false
 first_kept [] b e some = absurd (some refl)
 first_kept (x ∷ listing) true e some = absurd cc
 first_kept (x ∷ listing) false e some = refl
@@ -112,11 +117,11 @@ first_kept (x ∷ listing) false e some = refl
 none_behind : (units : List ProgramUnit) → second_mains true units ≡ [] → HaveStatements units → (k : ℕ) (u : ProgramUnit) → slice_get units k ≡ Some u → is_main u.listing ≡ false
 none_behind [] e some k u h = absurd cc
 none_behind (first ∷ units) e some zero u h =
-    let here : is_main first.listing ≡ false = first_kept first.listing (is_main first.listing) (left_none (if is_main first.listing then first_refused 54 first.listing else []) (second_mains true units) e) (some 0 first refl) in
+    let here : is_main first.listing ≡ false = first_kept first.listing (is_main first.listing) (left_none (if is_main first.listing then first_refused NoProgram first.listing else []) (second_mains true units) e) (some 0 first refl) in
     let same : first ≡ u = cc in
     ap (λ (w : ProgramUnit). is_main w.listing) (sym same) ∙ here
 none_behind (first ∷ units) e some (suc k) u h =
-    none_behind units (right_none (if is_main first.listing then first_refused 54 first.listing else []) (second_mains true units) e) (λ j w f. some (suc j) w f) k u h
+    none_behind units (right_none (if is_main first.listing then first_refused NoProgram first.listing else []) (second_mains true units) e) (λ j w f. some (suc j) w f) k u h
 
 one_among : (units : List ProgramUnit) → second_mains false units ≡ [] → list_any (λ unit. is_main unit.listing) units ≡ true → HaveStatements units → HasOneMain units
 one_among [] e any some = absurd cc

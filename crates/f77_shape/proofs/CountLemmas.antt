@@ -1,4 +1,6 @@
 -- Names, counted statement by statement and unit by unit.
+use Rattle.f77_ast.specs.Limits.{most_names}
+use Rattle.f77_ast.specs.declared.rule.Rule.TheVariants.{SizeLimit}
 use Rattle.std.proofs.Common.{◌≡◌, ℕ, ◌+◌, ◌<◌, min, Bool, not, ◌&&◌, ◌||◌, List, [], ◌∷◌, ◌++◌, length, get_or, take, drop, Option, None, Some, if◌then◌else◌, refl, sym, ap, ◌∙◌, arith, append-nil, nat_eq}
 use Rattle.std.proofs.lemmas.Bool.Decides.{nat_tests}
 use Rattle.std.proofs.lemmas.List.{take_more, drop_more}
@@ -7,14 +9,14 @@ use Rattle.std.specs.Cmp.Lexicographic.{pointwise}
 use Rattle.f77_ast.specs.declared.program.Listed.{Listed}
 use Rattle.f77_ast.specs.declared.program.Unit.{Unit as ProgramUnit}
 use Rattle.f77_ast.specs.declared.refusal.Refusal.{Refusal}
-use Rattle.f77_cards.specs.Cards.{first_of}
+use Rattle.f77_ast.specs.Refusal.{first_of, sooner}
 use Rattle.f77_shape.specs.declared.names.Names.{Names}
-use Rattle.f77_shape.specs.Breaks.{at, sooner}
+use Rattle.f77_shape.specs.Breaks.{at}
 use Rattle.f77_shape.specs.Limits.{name_count, names_of, names_pass, name_breaks, is_past, passes}
 use Rattle.f77_shape.specs.Names.{names_in}
 use Rattle.f77_shape.specs.NameSets.{is_among, Holds, Adds}
 use Rattle.f77_shape.proofs.AddLemmas.{flat_map_append}
-use Rattle.f77_shape.proofs.Firsts.{sooner-assoc, first_of-append, first_of-when}
+use Rattle.f77_ast.proofs.Refusals.{sooner-assoc, first_of-append, first_of-when}
 
 -- the names of some units, added up
 abbrev pub all_counted : (others : ℕ) → List ProgramUnit → ℕ
@@ -34,25 +36,25 @@ holds_more names more before after held added = record {
   at = λ name. added.at name ∙ ap (λ b. b || is_among more name) (held.at name) ∙ sym (list_any-append (pointwise nat_eq name) names more);
 }
 
-past_capped : (a n : ℕ) → is_past (min (min a 10001 + n) 10001) ≡ is_past (a + n)
+past_capped : (a n : ℕ) → is_past (min (min a (most_names + 1) + n) (most_names + 1)) ≡ is_past (a + n)
 past_capped a n = grind (arith, nat_tests)
 
 -- whether the limit is passed, by numbers that are capped
-pub passes_capped : (others all n m before after : ℕ) → others ≡ min all 10001 → before ≡ min (others + n) 10001 → after ≡ min (others + m) 10001 → passes before after ≡ passes (all + n) (all + m)
+pub passes_capped : (others all n m before after : ℕ) → others ≡ min all (most_names + 1) → before ≡ min (others + n) (most_names + 1) → after ≡ min (others + m) (most_names + 1) → passes before after ≡ passes (all + n) (all + m)
 passes_capped others all n m before after e b a =
-    ap (λ k. not (is_past k) && is_past after) (b ∙ ap (λ o. min (o + n) 10001) e)
-    ∙ ap (λ k. not (is_past (min (min all 10001 + n) 10001)) && is_past k) (a ∙ ap (λ o. min (o + m) 10001) e)
-    ∙ ap (λ t. not t && is_past (min (min all 10001 + m) 10001)) (past_capped all n)
+    ap (λ k. not (is_past k) && is_past after) (b ∙ ap (λ o. min (o + n) (most_names + 1)) e)
+    ∙ ap (λ k. not (is_past (min (min all (most_names + 1) + n) (most_names + 1))) && is_past k) (a ∙ ap (λ o. min (o + m) (most_names + 1)) e)
+    ∙ ap (λ t. not t && is_past (min (min all (most_names + 1) + m) (most_names + 1))) (past_capped all n)
     ∙ ap (λ t. not (is_past (all + n)) && t) (past_capped all m)
 
 -- one turn of the loop over a unit
-pub pass_turn : (all : ℕ) (unit : List Listed) (i : ℕ) (x : Listed) (over found next total : Option Refusal) (breaks : Bool) → i < length unit → x ≡ get_or unit i x → next ≡ sooner over found → found ≡ (if breaks then Some (at x 56) else None) → breaks ≡ passes (all + name_count (names_of (take i unit))) (all + name_count (names_of (take (i + 1) unit))) → sooner over (first_of (names_pass all (names_of (take i unit)) (drop i unit))) ≡ total → sooner next (first_of (names_pass all (names_of (take (i + 1) unit)) (drop (i + 1) unit))) ≡ total
+pub pass_turn : (all : ℕ) (unit : List Listed) (i : ℕ) (x : Listed) (over found next total : Option Refusal) (breaks : Bool) → i < length unit → x ≡ get_or unit i x → next ≡ sooner over found → found ≡ (if breaks then Some (at x SizeLimit) else None) → breaks ≡ passes (all + name_count (names_of (take i unit))) (all + name_count (names_of (take (i + 1) unit))) → sooner over (first_of (names_pass all (names_of (take i unit)) (drop i unit))) ≡ total → sooner next (first_of (names_pass all (names_of (take (i + 1) unit)) (drop (i + 1) unit))) ≡ total
 pass_turn all unit i x over found next total breaks within stands e f same so_far =
     ap (λ o. sooner o rest) (e ∙ ap (sooner over) f)
-    ∙ sooner-assoc over (if breaks then Some (at x 56) else None) rest
-    ∙ ap (λ b. sooner over (sooner (if b then Some (at x 56) else None) rest)) (same ∙ ap (λ l. passes (all + name_count (names_of (take i unit))) (all + name_count l)) more)
-    ∙ ap (λ l. sooner over (sooner (if here then Some (at x 56) else None) (first_of (names_pass all l (drop (i + 1) unit))))) more
-    ∙ ap (sooner over) (sym (first_of-when here (at x 56) (names_pass all (names_of (take i unit) ++ names_in x.stmt) (drop (i + 1) unit))))
+    ∙ sooner-assoc over (if breaks then Some (at x SizeLimit) else None) rest
+    ∙ ap (λ b. sooner over (sooner (if b then Some (at x SizeLimit) else None) rest)) (same ∙ ap (λ l. passes (all + name_count (names_of (take i unit))) (all + name_count l)) more)
+    ∙ ap (λ l. sooner over (sooner (if here then Some (at x SizeLimit) else None) (first_of (names_pass all l (drop (i + 1) unit))))) more
+    ∙ ap (sooner over) (sym (first_of-when here (at x SizeLimit) (names_pass all (names_of (take i unit) ++ names_in x.stmt) (drop (i + 1) unit))))
     ∙ ap (λ l. sooner over (first_of (names_pass all (names_of (take i unit)) l))) (sym (drop_more unit i x within ∙ ap (λ y. y ∷ drop (i + 1) unit) (sym stands)))
     ∙ so_far
   where

@@ -15,6 +15,6 @@ abbrev pub enters : (unit : List Listed) → (from : ℕ) → Option ℕ → Boo
 enters unit from None = false
 enters unit from (Some to) = list_any (is_entered from to) (ranges_of unit ++ blocks_of unit)
 
--- code 55: a label of a GO TO or arithmetic IF in a DO range or IF block that doesn't hold the jump
+-- JumpIntoRange: a label of a GO TO or arithmetic IF in a DO range or IF block that doesn't hold the jump
 abbrev pub jumps_in : (unit : List Listed) → ℕ → Listed → List Listed → Bool
 jumps_in unit place listed following = list_any (λ label. enters unit place (target_in label unit)) (jumps_of listed.stmt)

@@ -5,10 +5,10 @@ use Rattle.std.specs.Option.{is_none}
 use Rattle.f77_ast.specs.declared.program.Listed.{Listed}
 use Rattle.f77_structure.specs.Labels.{labels_of, target_in, has_any}
 
--- code 50: a label that no executable statement of the unit has
+-- LabelMissing: a label that no executable statement of the unit has
 abbrev pub misses_label : (unit : List Listed) → ℕ → Listed → List Listed → Bool
 misses_label unit place listed following = list_any (λ label. is_none (target_in label unit)) (labels_of listed.stmt)
 
--- code 51: a label that an earlier statement of the unit has
+-- DoubleLabel: a label that an earlier statement of the unit has
 abbrev pub doubles_label : (unit : List Listed) → ℕ → Listed → List Listed → Bool
 doubles_label unit place listed following = has_any listed.card.label (take place unit)

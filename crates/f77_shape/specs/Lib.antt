@@ -15,4 +15,3 @@ pub mod Program
 pub mod Ranges
 pub mod Shape
 pub mod Tables
-pub mod Targets

@@ -1,4 +1,6 @@
 -- The limits on statements, units and names; they are this project's own.
+use Rattle.f77_ast.specs.declared.rule.Rule.TheVariants.{SizeLimit}
+use Rattle.f77_ast.specs.Limits.{most_statements, most_units, most_names}
 use Rattle.std.specs.Prelude.{ℕ, ◌+◌, Bool, ◌&&◌, not, nat_lt, nat_eq, List, [], ◌∷◌, ◌++◌, Option, None, Some, slice_get}
 use Rattle.std.specs.Cmp.Lexicographic.{pointwise}
 use Rattle.std.specs.List.{flat_map}
@@ -6,28 +8,28 @@ use Rattle.std.specs.Set.{distinct_count}
 use Rattle.f77_ast.specs.declared.program.Listed.{Listed}
 use Rattle.f77_ast.specs.declared.program.Unit.{Unit as ProgramUnit}
 use Rattle.f77_ast.specs.declared.refusal.Refusal.{Refusal}
-use Rattle.f77_cards.specs.Cards.{when}
+use Rattle.f77_ast.specs.Refusal.{when}
 use Rattle.f77_shape.specs.Breaks.{at}
 use Rattle.f77_shape.specs.Names.{names_in}
 use Rattle.f77_shape.specs.Program.{first_refused}
 
--- code 56: a statement that is one too many
+-- SizeLimit: a statement that is one too many
 abbrev pub statement_over : Option Listed → List Refusal
 statement_over None = []
-statement_over (Some listed) = at listed 56 ∷ []
+statement_over (Some listed) = at listed SizeLimit ∷ []
 
--- code 56: the 10,001st statement of a file
+-- SizeLimit: the first statement of a file that is one too many
 abbrev pub statement_breaks : List Listed → List Refusal
-statement_breaks statements = statement_over (slice_get statements 10000)
+statement_breaks statements = statement_over (slice_get statements most_statements)
 
--- code 56: the first statement of a unit that is one too many
+-- SizeLimit: the first statement of a unit that is one too many
 abbrev pub unit_over : Option ProgramUnit → List Refusal
 unit_over None = []
-unit_over (Some unit) = first_refused 56 unit.listing
+unit_over (Some unit) = first_refused SizeLimit unit.listing
 
--- code 56: the first statement of the 201st unit
+-- SizeLimit: the first statement of the first unit that is one too many
 abbrev pub unit_breaks : List ProgramUnit → List Refusal
-unit_breaks units = unit_over (slice_get units 200)
+unit_breaks units = unit_over (slice_get units most_units)
 
 -- the names that stand in some statements
 abbrev pub names_of : List Listed → List (List ℕ)
@@ -39,18 +41,18 @@ name_count names = distinct_count (pointwise nat_eq) names
 
 -- whether a number of names passes the limit
 abbrev pub is_past : ℕ → Bool
-is_past count = nat_lt 10000 count
+is_past count = nat_lt most_names count
 
 -- whether the limit is passed between two numbers of names
 abbrev pub passes : (before after : ℕ) → Bool
 passes before after = not (is_past before) && is_past after
 
--- code 56: the statement at which the number of names, each counted once in each unit in which it stands, passes 10,000:
+-- SizeLimit: the statement at which the number of names, each counted once in each unit in which it stands, passes the limit:
 -- `others` names stand in the units before, and these names before in the unit
 abbrev pub names_pass : (others : ℕ) → (earlier : List (List ℕ)) → List Listed → List Refusal
 names_pass others earlier [] = []
 names_pass others earlier (listed ∷ following) =
-    when (passes (others + name_count earlier) (others + name_count (earlier ++ names_in listed.stmt))) (at listed 56)
+    when (passes (others + name_count earlier) (others + name_count (earlier ++ names_in listed.stmt))) (at listed SizeLimit)
     ++ names_pass others (earlier ++ names_in listed.stmt) following
 
 abbrev pub name_breaks : (others : ℕ) → List ProgramUnit → List Refusal

@@ -44,6 +44,6 @@ abbrev pub breaks_with : (unit : List Listed) → (place : ℕ) → Option ℕ �
 breaks_with unit place None = false
 breaks_with unit place (Some label) = breaks_to unit place (target_in label unit)
 
--- code 52: a DO whose terminal statement or nesting breaks these
+-- DoNesting: a DO whose terminal statement or nesting breaks these
 abbrev pub breaks_range : (unit : List Listed) → ℕ → Listed → List Listed → Bool
 breaks_range unit place listed following = breaks_with unit place (terminal_label listed.stmt)

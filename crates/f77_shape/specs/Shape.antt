@@ -1,10 +1,11 @@
 -- The shape of a file: all that is broken in its statements, and its units where nothing is.
+use Rattle.f77_ast.specs.declared.rule.Rule.TheVariants.{DoNesting, DoubleLabel, IfNesting, JumpIntoRange, LabelMissing, StatementOrder}
 use Rattle.std.specs.Prelude.{List, ◌++◌, Option, None, Some, Result, Ok, Err}
 use Rattle.std.specs.List.{flat_map}
 use Rattle.f77_ast.specs.declared.program.Listed.{Listed}
 use Rattle.f77_ast.specs.declared.program.Unit.{Unit as ProgramUnit}
 use Rattle.f77_ast.specs.declared.refusal.Refusal.{Refusal}
-use Rattle.f77_cards.specs.Cards.{first_of}
+use Rattle.f77_ast.specs.Refusal.{first_of}
 use Rattle.f77_shape.specs.Blocks.{is_misplaced_part, is_unended}
 use Rattle.f77_shape.specs.Breaks.{broken_by}
 use Rattle.f77_shape.specs.Jumps.{jumps_in}
@@ -18,13 +19,13 @@ use Rattle.f77_structure.specs.Units.{units_of}
 -- what is broken in the statements of one unit: codes 50 to 53, 55 and 57
 abbrev pub breaks_in : List Listed → List Refusal
 breaks_in unit =
-    broken_by 50 (misses_label unit) 0 unit
-    ++ broken_by 51 (doubles_label unit) 0 unit
-    ++ broken_by 52 (breaks_range unit) 0 unit
-    ++ broken_by 53 (is_misplaced_part unit) 0 unit
-    ++ broken_by 53 is_unended 0 unit
-    ++ broken_by 55 (jumps_in unit) 0 unit
-    ++ broken_by 57 (is_out_of_order unit) 0 unit
+    broken_by LabelMissing (misses_label unit) 0 unit
+    ++ broken_by DoubleLabel (doubles_label unit) 0 unit
+    ++ broken_by DoNesting (breaks_range unit) 0 unit
+    ++ broken_by IfNesting (is_misplaced_part unit) 0 unit
+    ++ broken_by IfNesting is_unended 0 unit
+    ++ broken_by JumpIntoRange (jumps_in unit) 0 unit
+    ++ broken_by StatementOrder (is_out_of_order unit) 0 unit
 
 -- what is broken in some units: the same of each, and codes 54 and 56 of all
 abbrev pub breaks_among : List ProgramUnit → List Refusal

@@ -5,7 +5,7 @@ use Rattle.f77_shape.specs.declared.unit_tables.UnitTables.{UnitTables}
 use Rattle.f77_shape.specs.StretchIndex.{IsStretchIndex}
 use Rattle.f77_structure.specs.Blocks.{blocks_of}
 use Rattle.f77_structure.specs.Stretches.{ranges_of}
-use Rattle.f77_shape.specs.Targets.{AreTargets}
+use Rattle.f77_structure.specs.Targets.{AreTargets}
 
 -- the tables are those of a unit
 pub record AreUnitTables (unit : List Listed) (places : UnitTables) : Type 0 where

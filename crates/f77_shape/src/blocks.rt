@@ -1,13 +1,15 @@
 //! Block IFs: IF with THEN, ELSE IF, ELSE and END IF (ANSI X3.9-1978, sections 11.6 to 11.9).
 ghost use Rattle.std.specs.Prelude.{◌≡◌, ◌<◌, ◌-◌, ◌^◌, [], reverse, IfOk, OnOk};
-ghost use Rattle.f77_cards.specs.Cards.{first_of};
+ghost use Rattle.f77_ast.specs.Refusal.{first_of};
 ghost use Rattle.f77_shape.specs.Blocks.{opened_by, none_open, takes_no_else, is_misplaced, ends_count, is_misplaced_part, lacks_end, is_unended};
 ghost use Rattle.f77_shape.specs.Breaks.{broken_by};
 
-use crate::breaks::{IF_NESTING, refused_if, sooner};
+use crate::breaks::refused_if;
 use f77_ast::program::Listed;
-use f77_ast::refusal::Refusal;
+use f77_ast::refusal::{Refusal, sooner};
+use f77_ast::rule::Rule;
 use f77_ast::stmt::Stmt;
+use f77_structure::blocks::{IfPart, if_part};
 use hyb_base::no_memory::NoMemory;
 use std::alloc::Global;
 
@@ -26,11 +28,12 @@ fn takes_no_else(elses: &Vec<bool>) -> bool
 fn is_misplaced(elses: &Vec<bool>, stmt: &Stmt) -> bool
     ensures { result ≡ is_misplaced (reverse elses.now.items) stmt.now }
 {
-    match stmt {
-        Stmt::ElseIf(_) => takes_no_else(elses),
-        Stmt::Else => takes_no_else(elses),
-        Stmt::EndIf => elses.is_empty(),
-        _ => false,
+    match if_part(stmt) {
+        None => false,
+        Some(IfPart::If) => false,
+        Some(IfPart::ElseIf) => takes_no_else(elses),
+        Some(IfPart::Else) => takes_no_else(elses),
+        Some(IfPart::EndIf) => elses.is_empty(),
     }
 }
 
@@ -38,35 +41,36 @@ fn is_misplaced(elses: &Vec<bool>, stmt: &Stmt) -> bool
 fn go_on(elses: &mut Vec<bool>, stmt: &Stmt) -> Result<(), NoMemory>
     ensures { OnOk result (reverse elses.new.items ≡ opened_by stmt.now (reverse elses.old.items)) }
 {
-    match stmt {
-        Stmt::BlockIf(_) => {
+    match if_part(stmt) {
+        None => Ok(()),
+        Some(IfPart::If) => {
             elses.push(false)?;
             Ok(())
         }
-        Stmt::Else => match elses.pop() {
+        Some(IfPart::ElseIf) => Ok(()),
+        Some(IfPart::Else) => match elses.pop() {
             None => Ok(()),
             Some(_had) => {
                 elses.push(true)?;
                 Ok(())
             }
         },
-        Stmt::EndIf => {
+        Some(IfPart::EndIf) => {
             let _closed = elses.pop();
             Ok(())
         }
-        _ => Ok(()),
     }
 }
 
-/// Code 53: the first ELSE IF, ELSE or END IF of a unit without its IF, or ELSE IF or ELSE after an ELSE of the same IF.
+/// IfNesting: the first ELSE IF, ELSE or END IF of a unit without its IF, or ELSE IF or ELSE after an ELSE of the same IF.
 pub fn misplaced_part(alloc: Global, unit: &[Listed]) -> Result<Option<Refusal>, NoMemory>
-    ensures { IfOk result (λ first. first ≡ first_of (broken_by 53 (is_misplaced_part unit.now) 0 unit.now)) }
+    ensures { IfOk result (λ first. first ≡ first_of (broken_by Rule.IfNesting (is_misplaced_part unit.now) 0 unit.now)) }
 {
     let mut first = None;
     let mut elses: Vec<bool> = Vec::new(alloc);
     for listed in unit {
         let breaks = is_misplaced(&elses, &listed.stmt);
-        first = sooner(first, refused_if(breaks, listed, IF_NESTING));
+        first = sooner(first, refused_if(breaks, listed, Rule::IfNesting));
         go_on(&mut elses, &listed.stmt)?;
     }
     Ok(first)
@@ -76,9 +80,12 @@ pub fn misplaced_part(alloc: Global, unit: &[Listed]) -> Result<Option<Refusal>,
 fn lacks_end(stmt: &Stmt, ends: usize) -> bool
     ensures { result ≡ lacks_end stmt.now ends }
 {
-    match stmt {
-        Stmt::BlockIf(_) => ends == 0,
-        _ => false,
+    match if_part(stmt) {
+        None => false,
+        Some(IfPart::If) => ends == 0,
+        Some(IfPart::ElseIf) => false,
+        Some(IfPart::Else) => false,
+        Some(IfPart::EndIf) => false,
     }
 }
 
@@ -88,16 +95,18 @@ fn ends_count(stmt: &Stmt, ends: usize) -> usize
     requires { ends < 2 ^ 64 - 1 }
     ensures { result ≡ ends_count stmt.now ends }
 {
-    match stmt {
-        Stmt::EndIf => ends + 1,
-        Stmt::BlockIf(_) => ends.saturating_sub(1),
-        _ => ends,
+    match if_part(stmt) {
+        None => ends,
+        Some(IfPart::If) => ends.saturating_sub(1),
+        Some(IfPart::ElseIf) => ends,
+        Some(IfPart::Else) => ends,
+        Some(IfPart::EndIf) => ends + 1,
     }
 }
 
-/// Code 53: the first IF with THEN of a unit without its END IF.
+/// IfNesting: the first IF with THEN of a unit without its END IF.
 pub fn unended_if(unit: &[Listed]) -> Option<Refusal>
-    ensures { result ≡ first_of (broken_by 53 is_unended 0 unit.now) }
+    ensures { result ≡ first_of (broken_by Rule.IfNesting is_unended 0 unit.now) }
 {
     let mut first = None;
     let mut ends: usize = 0;
@@ -106,7 +115,7 @@ pub fn unended_if(unit: &[Listed]) -> Option<Refusal>
         place -= 1;
         let listed = &unit[place];
         first = sooner(
-            refused_if(lacks_end(&listed.stmt, ends), listed, IF_NESTING),
+            refused_if(lacks_end(&listed.stmt, ends), listed, Rule::IfNesting),
             first,
         );
         ends = ends_count(&listed.stmt, ends);

@@ -6,12 +6,12 @@ pub fn law_of_nested_ranges()
     ensures { AcceptedRangesNest }
 {}
 
-/// A law: an accepted file has 10,000 statements and 200 units at most, and its units hold its statements.
+/// A law: an accepted file has no more statements and units than it may have, and its units hold its statements.
 pub fn law_of_small_files()
     ensures { AcceptedFilesAreSmall }
 {}
 
-/// A law: each unit of an accepted file ends with END.
+/// A law: each unit of an accepted file ends with END, and has no other.
 pub fn law_of_units_that_end()
     ensures { AcceptedUnitsEnd }
 {}

@@ -18,7 +18,4 @@ mod program;
 mod ranges;
 pub mod shape;
 mod stretch_index;
-mod stretches;
-mod targets;
 mod unit_tables;
-mod units;

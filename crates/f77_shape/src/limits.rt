@@ -1,49 +1,43 @@
 //! The limits on statements, units and names; they are this project's own.
+ghost use Rattle.f77_ast.specs.Limits.{most_names};
 ghost use Rattle.std.specs.Prelude.{◌≡◌, ◌+◌, ◌≤◌, ℕ, min, IfOk};
-ghost use Rattle.f77_cards.specs.Cards.{first_of};
+ghost use Rattle.f77_ast.specs.Refusal.{first_of};
 ghost use Rattle.f77_shape.specs.Counts.{IsCounted};
 ghost use Rattle.f77_shape.specs.Limits.{statement_breaks, unit_breaks, name_breaks, passes};
 
-use crate::breaks::{SIZE_LIMIT, refused_if, sooner};
+use crate::breaks::refused_if;
 use crate::names::Names;
 use crate::program::first_refused;
+use f77_ast::limits::{MOST_NAMES, MOST_STATEMENTS, MOST_UNITS};
 use f77_ast::program::{Listed, Unit};
-use f77_ast::refusal::Refusal;
+use f77_ast::refusal::{Refusal, sooner};
+use f77_ast::rule::Rule;
 use hyb_base::no_memory::NoMemory;
 use std::alloc::Global;
 
-/// The greatest number of statements of a file.
-const MOST_STATEMENTS: usize = 10_000;
-
-/// The greatest number of units of a file.
-const MOST_UNITS: usize = 200;
-
-/// The greatest number of names of a file, each counted once in each unit in which it is.
-const MOST_NAMES: usize = 10_000;
-
-/// Code 56: the 10,001st statement of a file.
+/// SizeLimit: the first statement of a file that is one too many.
 pub fn too_many_statements(statements: &[Listed]) -> Option<Refusal>
     ensures { result ≡ first_of (statement_breaks statements.now) }
 {
     match statements.get(MOST_STATEMENTS) {
         None => None,
-        Some(listed) => refused_if(true, listed, SIZE_LIMIT),
+        Some(listed) => refused_if(true, listed, Rule::SizeLimit),
     }
 }
 
-/// Code 56: the first statement of the 201st unit.
+/// SizeLimit: the first statement of the first unit that is one too many.
 pub fn too_many_units(units: &[Unit]) -> Option<Refusal>
     ensures { result ≡ first_of (unit_breaks units.now) }
 {
     match units.get(MOST_UNITS) {
         None => None,
-        Some(unit) => first_refused(unit.listing.as_slice(), SIZE_LIMIT),
+        Some(unit) => first_refused(unit.listing.as_slice(), Rule::SizeLimit),
     }
 }
 
-/// So many names and more, or one more than may be where they are more than that.
+/// `others + count`, cut at MOST_NAMES + 1: more would give the same answer.
 fn capped(others: usize, count: usize) -> usize
-    ensures { result ≡ min (others + count) 10001 }
+    ensures { result ≡ min (others + count) (most_names + 1) }
 {
     others.saturating_add(count).min(MOST_NAMES + 1)
 }
@@ -66,8 +60,8 @@ struct Counted {
 
 /// Counts the names of a unit, with those of the units before.
 fn count_names(alloc: Global, others: usize, unit: &[Listed]) -> Result<Counted, NoMemory>
-    requires { others ≤ 10001 }
-    ensures { IfOk result (λ counted. (all : ℕ) → others ≡ min all 10001 → IsCounted all unit.now counted.over counted.count) }
+    requires { others ≤ (most_names + 1) }
+    ensures { IfOk result (λ counted. (all : ℕ) → others ≡ min all (most_names + 1) → IsCounted all unit.now counted.over counted.count) }
 {
     let mut names = Names::new(alloc);
     let mut over = None;
@@ -75,13 +69,16 @@ fn count_names(alloc: Global, others: usize, unit: &[Listed]) -> Result<Counted,
     for listed in unit {
         names.statement(&listed.stmt)?;
         let after = capped(others, names.len());
-        over = sooner(over, refused_if(passes(count, after), listed, SIZE_LIMIT));
+        over = sooner(
+            over,
+            refused_if(passes(count, after), listed, Rule::SizeLimit),
+        );
         count = after;
     }
     Ok(Counted { over, count })
 }
 
-/// Code 56: the statement at which the number of names passes the limit.
+/// SizeLimit: the statement at which the number of names passes the limit.
 pub fn too_many_names(alloc: Global, units: &[Unit]) -> Result<Option<Refusal>, NoMemory>
     ensures { IfOk result (λ first. first ≡ first_of (name_breaks 0 units.now)) }
 {

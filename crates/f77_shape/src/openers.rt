@@ -2,7 +2,7 @@
 ghost use Rattle.std.specs.Prelude.{◌≡◌, ◌==◌, ◌<◌, ◌≤◌, ℕ, max, length, vec_len, IfOk, slice_index, if◌then◌else◌};
 ghost use Rattle.f77_shape.specs.Openers.{AreOpeners, AreFarthest, AreFound, opener_before};
 
-use crate::stretches::Stretch;
+use f77_structure::stretches::Stretch;
 use hyb_base::no_memory::NoMemory;
 use std::alloc::Global;
 

@@ -1,15 +1,16 @@
 //! The order of statements in a unit (ANSI X3.9-1978, section 3.5).
 ghost use Rattle.std.specs.Prelude.{◌≡◌, ◌&&◌, ◌||◌, nat_lt};
-ghost use Rattle.f77_cards.specs.Cards.{first_of};
+ghost use Rattle.f77_ast.specs.Refusal.{first_of};
 ghost use Rattle.f77_shape.specs.Breaks.{broken_by};
 ghost use Rattle.f77_shape.specs.Order.{part_of, follows_part, has_return, is_out_of_order};
 
-use crate::breaks::{STATEMENT_ORDER, refused_if, sooner};
-use crate::targets::inner_of;
-use crate::units::is_main;
+use crate::breaks::refused_if;
 use f77_ast::program::Listed;
-use f77_ast::refusal::Refusal;
+use f77_ast::refusal::{Refusal, sooner};
+use f77_ast::rule::Rule;
 use f77_ast::stmt::Stmt;
+use f77_structure::statements::inner_of;
+use f77_structure::units::is_main;
 
 /// The part of a unit in which a statement is: 1 for PROGRAM, SUBROUTINE and FUNCTION, 2 for IMPLICIT and PARAMETER,
 /// 3 for the other declarations, 4 for DATA and executable statements.
@@ -27,7 +28,24 @@ fn part_of(stmt: &Stmt) -> u8
         Stmt::Common(_) => 3,
         Stmt::Equivalence(_) => 3,
         Stmt::Save(_) => 3,
-        _ => 4,
+        Stmt::Assign { .. } => 4,
+        Stmt::Do { .. } => 4,
+        Stmt::Continue => 4,
+        Stmt::Return => 4,
+        Stmt::Else => 4,
+        Stmt::EndIf => 4,
+        Stmt::End => 4,
+        Stmt::Stop(_) => 4,
+        Stmt::Goto(_) => 4,
+        Stmt::ComputedGoto { .. } => 4,
+        Stmt::ArithmeticIf { .. } => 4,
+        Stmt::LogicalIf { .. } => 4,
+        Stmt::BlockIf(_) => 4,
+        Stmt::ElseIf(_) => 4,
+        Stmt::Call { .. } => 4,
+        Stmt::Print(_) => 4,
+        Stmt::Read(_) => 4,
+        Stmt::Init(_) => 4,
     }
 }
 
@@ -48,7 +66,24 @@ fn follows_part(stmt: &Stmt) -> u8
         Stmt::Common(_) => 3,
         Stmt::Equivalence(_) => 3,
         Stmt::Save(_) => 3,
-        _ => 4,
+        Stmt::Assign { .. } => 4,
+        Stmt::Do { .. } => 4,
+        Stmt::Continue => 4,
+        Stmt::Return => 4,
+        Stmt::Else => 4,
+        Stmt::EndIf => 4,
+        Stmt::End => 4,
+        Stmt::Stop(_) => 4,
+        Stmt::Goto(_) => 4,
+        Stmt::ComputedGoto { .. } => 4,
+        Stmt::ArithmeticIf { .. } => 4,
+        Stmt::LogicalIf { .. } => 4,
+        Stmt::BlockIf(_) => 4,
+        Stmt::ElseIf(_) => 4,
+        Stmt::Call { .. } => 4,
+        Stmt::Print(_) => 4,
+        Stmt::Read(_) => 4,
+        Stmt::Init(_) => 4,
     }
 }
 
@@ -58,7 +93,33 @@ fn has_return(stmt: &Stmt) -> bool
 {
     match inner_of(stmt) {
         Stmt::Return => true,
-        _ => false,
+        Stmt::Assign { .. } => false,
+        Stmt::Do { .. } => false,
+        Stmt::Continue => false,
+        Stmt::Else => false,
+        Stmt::EndIf => false,
+        Stmt::End => false,
+        Stmt::Stop(_) => false,
+        Stmt::Goto(_) => false,
+        Stmt::ComputedGoto { .. } => false,
+        Stmt::ArithmeticIf { .. } => false,
+        Stmt::LogicalIf { .. } => false,
+        Stmt::BlockIf(_) => false,
+        Stmt::ElseIf(_) => false,
+        Stmt::Call { .. } => false,
+        Stmt::Print(_) => false,
+        Stmt::Read(_) => false,
+        Stmt::Program(_) => false,
+        Stmt::Subroutine { .. } => false,
+        Stmt::Function { .. } => false,
+        Stmt::Declare { .. } => false,
+        Stmt::Dimension(_) => false,
+        Stmt::Common(_) => false,
+        Stmt::Equivalence(_) => false,
+        Stmt::Parameter(_) => false,
+        Stmt::Implicit(_) => false,
+        Stmt::Save(_) => false,
+        Stmt::Init(_) => false,
     }
 }
 
@@ -69,17 +130,17 @@ fn is_out_of_order(main: bool, latest: u8, stmt: &Stmt) -> bool
     follows_part(stmt) < latest || (main && has_return(stmt))
 }
 
-/// Code 57: the first statement of a unit that is after one before which it should be, or that is a RETURN in a
+/// StatementOrder: the first statement of a unit that is after one before which it should be, or that is a RETURN in a
 /// main unit.
 pub fn wrong_order(unit: &[Listed]) -> Option<Refusal>
-    ensures { result ≡ first_of (broken_by 57 (is_out_of_order unit.now) 0 unit.now) }
+    ensures { result ≡ first_of (broken_by Rule.StatementOrder (is_out_of_order unit.now) 0 unit.now) }
 {
     let main = is_main(unit);
     let mut first = None;
     let mut latest = 0;
     for listed in unit {
         let breaks = is_out_of_order(main, latest, &listed.stmt);
-        first = sooner(first, refused_if(breaks, listed, STATEMENT_ORDER));
+        first = sooner(first, refused_if(breaks, listed, Rule::StatementOrder));
         latest = u8::max(latest, part_of(&listed.stmt));
     }
     first

@@ -1,39 +1,20 @@
 //! DO ranges: their terminal statements, and how they nest (ANSI X3.9-1978, sections 11.10 and 11.10.1).
 ghost use Rattle.std.specs.Prelude.{◌≡◌, ◌<◌, ◌-◌, ◌^◌, List, length, slice_get, ◌||◌, Some};
 ghost use Rattle.f77_ast.specs.declared.program.Listed.{Listed};
-ghost use Rattle.f77_cards.specs.Cards.{first_of};
-ghost use Rattle.f77_structure.specs.Statements.{terminal_label, may_end_range};
+ghost use Rattle.f77_ast.specs.Refusal.{first_of};
+ghost use Rattle.f77_structure.specs.Statements.{terminal_label};
 ghost use Rattle.f77_shape.specs.Breaks.{broken_by};
 ghost use Rattle.f77_structure.specs.Labels.{target_in};
 ghost use Rattle.f77_shape.specs.UnitTables.{AreUnitTables};
 ghost use Rattle.f77_shape.specs.Ranges.{may_end, crosses_a_range, leaves_a_block, breaks_to, breaks_with, breaks_range};
 
-use crate::breaks::{DO_NESTING, refused_if, sooner};
-use crate::targets::{is_executable, terminal_label};
+use crate::breaks::refused_if;
 use crate::unit_tables::UnitTables;
 use f77_ast::program::Listed;
-use f77_ast::refusal::Refusal;
+use f77_ast::refusal::{Refusal, sooner};
+use f77_ast::rule::Rule;
 use f77_ast::stmt::{Label, Stmt};
-
-/// Whether a statement may be the terminal statement of a DO-loop: it is executable, and no GO TO, arithmetic IF, block
-/// IF, ELSE IF, ELSE, END IF, RETURN, STOP, END or DO (section 11.10).
-fn may_end_range(stmt: &Stmt) -> bool
-    ensures { result ≡ may_end_range stmt.now }
-{
-    match stmt {
-        Stmt::Goto(_) => false,
-        Stmt::ArithmeticIf { .. } => false,
-        Stmt::BlockIf(_) => false,
-        Stmt::ElseIf(_) => false,
-        Stmt::Else => false,
-        Stmt::EndIf => false,
-        Stmt::Return => false,
-        Stmt::Stop(_) => false,
-        Stmt::End => false,
-        Stmt::Do { .. } => false,
-        other => is_executable(other),
-    }
-}
+use f77_structure::statements::{may_end_range, terminal_label};
 
 /// Whether there is a statement at a place, and it may be a terminal statement.
 fn may_end(unit: &[Listed], place: usize) -> bool
@@ -114,15 +95,15 @@ fn breaks_range(unit: &[Listed], places: &UnitTables, place: usize, stmt: &Stmt)
     }
 }
 
-/// Code 52: the first DO statement of a unit whose terminal statement or nesting breaks the rules.
+/// DoNesting: the first DO statement of a unit whose terminal statement or nesting breaks the rules.
 pub fn bad_range(unit: &[Listed], places: &UnitTables) -> Option<Refusal>
     requires { AreUnitTables unit.now places.now }
-    ensures { result ≡ first_of (broken_by 52 (breaks_range unit.now) 0 unit.now) }
+    ensures { result ≡ first_of (broken_by Rule.DoNesting (breaks_range unit.now) 0 unit.now) }
 {
     let mut first = None;
     for (place, listed) in unit.iter().enumerate() {
         let breaks = breaks_range(unit, places, place, &listed.stmt);
-        first = sooner(first, refused_if(breaks, listed, DO_NESTING));
+        first = sooner(first, refused_if(breaks, listed, Rule::DoNesting));
     }
     first
 }

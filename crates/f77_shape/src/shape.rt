@@ -1,13 +1,12 @@
 //! The shape of a file.
 ghost use Rattle.std.specs.Prelude.{◌≡◌, ◌++◌, Ok, Err, IfOk, IsErrOf};
-ghost use Rattle.f77_cards.specs.Cards.{first_of};
+ghost use Rattle.f77_ast.specs.Refusal.{first_of};
 ghost use Rattle.f77_shape.specs.Limits.{statement_breaks};
 ghost use Rattle.f77_shape.specs.Program.{end_breaks};
 ghost use Rattle.f77_ast.specs.declared.refusal.Refusal.{Refusal};
 ghost use Rattle.f77_shape.specs.Shape.{shape_of, unless_refused, breaks_in, breaks_among};
 
 use crate::blocks::{misplaced_part, unended_if};
-use crate::breaks::sooner;
 use crate::jumps::jump_in;
 use crate::labels::{double_label, missing_label};
 use crate::limits::{too_many_names, too_many_statements, too_many_units};
@@ -15,9 +14,9 @@ use crate::order::wrong_order;
 use crate::program::{bad_end, bad_main};
 use crate::ranges::bad_range;
 use crate::unit_tables::unit_tables;
-use crate::units::units_of;
 use f77_ast::program::{Listed, Listing, Unit, Units};
-use f77_ast::refusal::{FrontError, Refusal};
+use f77_ast::refusal::{FrontError, Refusal, sooner};
+use f77_structure::units::units_of;
 use hyb_base::no_memory::NoMemory;
 use std::alloc::Global;
 
@@ -34,8 +33,8 @@ use std::alloc::Global;
 /// 54. No main unit, at line 1; the first statement of a second main unit; the last statement of a unit without END, at
 ///     line 1 in a file of one statement.
 /// 55. A label of a GO TO or arithmetic IF in a DO range or IF block that doesn't hold the jump.
-/// 56. The 10,001st statement, the first statement of the 201st unit, and the statement at which the number of names,
-///     each counted once in each unit in which it is, passes 10,000.
+/// 56. The first statement past the limit on statements, the first statement of the first unit past that on units, and
+///     the statement at which the number of names, each counted once in each unit in which it is, passes that on names.
 /// 57. A statement after one before which it should be, or a RETURN in a main unit.
 ///
 /// `NoMemory` where no memory was to be had.

@@ -7,7 +7,7 @@ ghost use Rattle.f77_shape.specs.Jumps.{is_entered};
 ghost use Rattle.f77_shape.specs.Openers.{opens_behind};
 
 use crate::openers::openers_of;
-use crate::stretches::{Stretch, holds};
+use f77_structure::stretches::{Stretch, holds};
 use hyb_base::no_memory::NoMemory;
 use std::alloc::Global;
 

@@ -3,9 +3,10 @@ ghost use Rattle.std.specs.Prelude.{IfOk};
 ghost use Rattle.f77_shape.specs.UnitTables.{AreUnitTables};
 
 use crate::stretch_index::{StretchIndex, index_stretches};
-use crate::stretches::{blocks_of, ranges_of};
-use crate::targets::{Targets, targets_of};
 use f77_ast::program::Listed;
+use f77_structure::blocks::blocks_of;
+use f77_structure::stretches::ranges_of;
+use f77_structure::targets::{Targets, targets_of};
 use hyb_base::no_memory::NoMemory;
 use std::alloc::Global;
 
@@ -13,7 +14,7 @@ use std::alloc::Global;
 #[derive(Drop)]
 pub struct UnitTables {
     /// What its labels mean.
-    pub targets: Targets,
+    pub targets: Targets<usize>,
     /// Its DO ranges.
     pub ranges: StretchIndex,
     /// Its IF blocks.

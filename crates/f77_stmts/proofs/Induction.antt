@@ -4,6 +4,7 @@ use Rattle.std.proofs.lemmas.Bool.{and_parts}
 use Rattle.std.proofs.lemmas.List.{append_assoc, append-nil}
 use Rattle.std.specs.Prelude.{codes, option_map}
 use Rattle.std.specs.Char.{is_ascii_digit}
+use Rattle.f77_ast.specs.Refusal.{refusal_by}
 use Rattle.f77_ast.specs.Name.{is_letter, is_alphanumeric}
 use Rattle.f77_ast.specs.declared.expr.Expr.{Expr, out-Expr}
 use Rattle.f77_ast.specs.declared.refusal.Refusal.{Refusal}
@@ -19,7 +20,7 @@ use Rattle.f77_exprs.proofs.Words.{begins_splits, drop_all, passing}
 use Rattle.f77_stmts.specs.declared.keyword.Keyword.{Keyword}
 use Rattle.f77_stmts.specs.declared.keyword.Keyword.TheVariants as word
 use Rattle.f77_stmts.specs.Answer.{Answers}
-use Rattle.f77_stmts.specs.Cause.{code_of}
+use Rattle.f77_stmts.specs.Cause.{rule_of}
 use Rattle.f77_forms.specs.Form.{Spells, passes, read}
 use Rattle.f77_stmts.specs.Rows.{spelling, keywords, is_action, is_here, keyword_at, assignment, three_labels, jumps, rule}
 use Rattle.f77_forms.specs.Depth.{has_at_depth}
@@ -311,5 +312,5 @@ read_is_spelled text v e = if_some (IsStatement text) (statement_of text) v (sta
 pub answers_statement : (line : ℕ) (text : Text) (v : Stmt) → Some v ≡ statement_of text → Answers line text (Ok v)
 answers_statement line text v e = (read_is_spelled text v (sym e), λ other h. one_statement text other v h (read_is_spelled text v (sym e)))
 
-pub answers_none : (line : ℕ) (text : Text) (refusal : Refusal) → None ≡ statement_of text → refusal ≡ record { line = line; code = code_of text } → Answers line text (Err (Refused refusal))
+pub answers_none : (line : ℕ) (text : Text) (refusal : Refusal) → None ≡ statement_of text → refusal ≡ refusal_by line (rule_of text) → Answers line text (Err (Refused refusal))
 answers_none line text refusal e is = ((λ v h. let k : None ≡ Some v = e ∙ spelled_is_read text v h in cc), is)

@@ -1,5 +1,8 @@
 -- Why a text spells no statement.
 use Rattle.std.specs.Prelude.{ℕ, Bool, false, ◌&&◌, ◌||◌, ◌==◌, if◌then◌else◌, List, [], ◌∷◌, drop, codes}
+use Rattle.f77_ast.specs.Refusal.{code_of as code_of_rule}
+use Rattle.f77_ast.specs.declared.rule.Rule.{Rule}
+use Rattle.f77_ast.specs.declared.rule.Rule.TheVariants as rule
 use Rattle.f77_exprs.specs.declared.cause.Cause.{Cause}
 use Rattle.f77_exprs.specs.declared.cause.Cause.TheVariants.{RealLiteral, LiteralRange, NameTooLong, NoExpression}
 use Rattle.f77_exprs.specs.Operators.{Text, begins}
@@ -33,14 +36,22 @@ abbrev pub long_name_from : ℕ → Bool → Text → Bool
 long_name_from before seen [] = false
 long_name_from before seen (b ∷ i) = (is_long_name before (b ∷ i) && (seen || sees 61 (drop (alphanumerics (b ∷ i)) (b ∷ i)))) || long_name_from b (seen || (b == 61)) i
 
--- the code of a text by its cause as an expression, and by whether such a name stands in it
-abbrev pub code_by : Cause → Bool → ℕ
-code_by RealLiteral named = 12
-code_by LiteralRange named = 11
-code_by NameTooLong named = if named then 13 else 20
-code_by NoExpression named = if named then 13 else 20
+-- the rule that refuses a text without a cause of its own, by whether such a name stands in it
+abbrev pub rule_by_name : Bool → Rule
+rule_by_name named = if named then rule.NameTooLong else rule.NoStatement
 
--- the code of a text that spells no statement: one that is left out; a real literal; a number past 2^63 - 1; a long name;
--- any other
+-- the rule that refuses a text, by its cause as an expression, and by whether such a name stands in it
+abbrev pub rule_by : Cause → Bool → Rule
+rule_by RealLiteral named = rule.RealLiteral
+rule_by LiteralRange named = rule.LiteralRange
+rule_by NameTooLong named = rule_by_name named
+rule_by NoExpression named = rule_by_name named
+
+-- the rule that refuses a text that spells no statement: one that is left out; a real literal; a number past 2^63 - 1; a
+-- long name; any other
+abbrev pub rule_of : Text → Rule
+rule_of text = if is_left_out text then rule.LeftOut else rule_by (cause_of text) (long_name_from 32 false (outside text))
+
+-- its code
 abbrev pub code_of : Text → ℕ
-code_of text = if is_left_out text then 21 else code_by (cause_of text) (long_name_from 32 false (outside text))
+code_of text = code_of_rule (rule_of text)

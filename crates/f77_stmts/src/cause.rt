@@ -2,6 +2,7 @@
 ghost use Rattle.std.specs.Prelude.{◌≡◌, map, false, IfOk};
 ghost use Rattle.f77_stmts.specs.Cause as spec;
 
+use f77_ast::rule::Rule;
 use f77_exprs::cause::{Cause, cause_of, is_long_name};
 use f77_exprs::operators::begins;
 use f77_exprs::outside::outside;
@@ -104,27 +105,39 @@ fn has_long_name(plain: &[u8]) -> bool
     false
 }
 
-/// The code of a text by its cause as an expression, and by whether such a name is in it.
-fn code_by(cause: Cause, named: bool) -> u8
-    ensures { result ≡ spec.code_by cause named }
+/// The rule that refuses a text without a cause of its own, by whether such a name is in it.
+fn rule_by_name(named: bool) -> Rule
+    ensures { result ≡ spec.rule_by_name named }
 {
-    match cause {
-        Cause::RealLiteral => 12,
-        Cause::LiteralRange => 11,
-        Cause::NameTooLong | Cause::NoExpression => { if named { 13 } else { 20 } }
+    if named {
+        Rule::NameTooLong
+    } else {
+        Rule::NoStatement
     }
 }
 
-/// The code of a text that spells no statement: 21 for one that begins with a word of a statement that is left out, else
-/// 12 for a real literal, else 11 for a number past 2^63 - 1, else 13 for a name of more than six letters and digits
-/// directly before the first `=` or anywhere after it, else 20.
-pub fn code_of(alloc: Global, text: &[u8]) -> Result<u8, NoMemory>
-    ensures { IfOk result (λ code. code ≡ spec.code_of text.now) }
+/// The rule that refuses a text, by its cause as an expression, and by whether such a name is in it.
+fn rule_by(cause: Cause, named: bool) -> Rule
+    ensures { result ≡ spec.rule_by cause named }
+{
+    match cause {
+        Cause::RealLiteral => Rule::RealLiteral,
+        Cause::LiteralRange => Rule::LiteralRange,
+        Cause::NameTooLong => rule_by_name(named),
+        Cause::NoExpression => rule_by_name(named),
+    }
+}
+
+/// The rule that refuses a text that spells no statement: `LeftOut` for one that begins with a word of a statement that is
+/// left out, else `RealLiteral`, else `LiteralRange` for a number past 2^63 - 1, else `NameTooLong` for a name of more than
+/// six letters and digits directly before the first `=` or anywhere after it, else `NoStatement`.
+pub fn rule_of(alloc: Global, text: &[u8]) -> Result<Rule, NoMemory>
+    ensures { IfOk result (λ rule. rule ≡ spec.rule_of text.now) }
 {
     if is_left_out(text) {
-        return Ok(21);
+        return Ok(Rule::LeftOut);
     }
     let cause = cause_of(alloc, text)?;
     let plain = outside(alloc, text)?;
-    Ok(code_by(cause, has_long_name(plain.as_slice())))
+    Ok(rule_by(cause, has_long_name(plain.as_slice())))
 }

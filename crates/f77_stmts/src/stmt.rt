@@ -1,10 +1,11 @@
 //! The statement that a card spells.
 ghost use Rattle.std.specs.Prelude.{◌≡◌, IfOk};
 ghost use Rattle.f77_stmts.specs.Answer.{Answers};
-ghost use Rattle.f77_stmts.specs.Cause.{code_of};
+ghost use Rattle.f77_ast.specs.Refusal.{refusal_by};
+ghost use Rattle.f77_stmts.specs.Cause.{rule_of};
 ghost use Rattle.f77_stmts.specs.Statement as spec;
 
-use crate::cause::code_of;
+use crate::cause::rule_of;
 use crate::statement::statement;
 use f77_ast::program::Card;
 use f77_ast::refusal::{FrontError, Refusal};
@@ -21,10 +22,10 @@ fn read(alloc: Global, text: &[u8]) -> Result<Option<Stmt>, NoMemory>
 
 /// Why a text that spells no statement is refused, at its line.
 fn refusal(alloc: Global, line: u32, text: &[u8]) -> Result<Refusal, NoMemory>
-    ensures { IfOk result (λ refusal. refusal ≡ record { line = line; code = code_of text.now }) }
+    ensures { IfOk result (λ refusal. refusal ≡ refusal_by line (rule_of text.now)) }
 {
-    let code = code_of(alloc, text)?;
-    Ok(Refusal { line, code })
+    let rule = rule_of(alloc, text)?;
+    Ok(Refusal::new(line, rule))
 }
 
 /// The one statement that the text of a line spells, or why there is none.

@@ -6,3 +6,4 @@ pub mod Loops
 pub mod Rising
 pub mod StorageLemmas
 pub mod UnitLemmas
+pub mod ValueLemmas

@@ -5,7 +5,7 @@ use Rattle.f77_ast.specs.declared.program.Listed.{Listed}
 use Rattle.f77_ast.specs.declared.program.Unit.{Unit as ProgramUnit}
 use Rattle.f77_ast.specs.declared.stmt.Stmt.{Stmt, End}
 use Rattle.f77_structure.specs.Statements.{is_executable, may_end_range}
-use Rattle.f77_structure.specs.Units.{listing_of, first_executable, EndsWithEnd}
+use Rattle.f77_structure.specs.Units.{listing_of, first_executable, EndsWithEnd, is_main, main_unit}
 
 -- whether control goes on after a statement: after all but END
 abbrev pub goes_on : Stmt → Type 0
@@ -66,3 +66,19 @@ first_stands (b ∷ before) last e = by (is_executable b.stmt) (first_stands bef
     by : (x : Bool) → IsSome (slice_get (before ++ last ∷ []) (first_executable (before ++ last ∷ []))) → IsSome (slice_get (b ∷ (before ++ last ∷ [])) (cond (not x) (1 + first_executable (before ++ last ∷ [])) 0))
     by true h = refl
     by false h = subst (λ n. IsSome (slice_get (b ∷ (before ++ last ∷ [])) n)) next h
+
+-- where one of some units is a main unit, there is a main unit among them
+pub main_is_there : (units : List ProgramUnit) (k : ℕ) (unit : ProgramUnit) → slice_get units k ≡ Some unit → IsTrue (is_main unit.listing) → IsSome (slice_get units (main_unit units))
+main_is_there [] k unit e m = absurd (cc)
+main_is_there (first ∷ units) zero unit e m =
+    let same : first ≡ unit = cc in
+    let main : is_main first.listing ≡ true = ap (λ (u : ProgramUnit). is_main u.listing) same ∙ m in
+    subst (λ b. IsSome (slice_get (first ∷ units) (cond (not b) (1 + main_unit units) 0))) (sym main) refl
+main_is_there (first ∷ units) (suc k) unit e m = by (is_main first.listing) (main_is_there units k unit e m)
+  where
+    next : suc (main_unit units) ≡ 1 + main_unit units
+    next = omega arith
+
+    by : (b : Bool) → IsSome (slice_get units (main_unit units)) → IsSome (slice_get (first ∷ units) (cond (not b) (1 + main_unit units) 0))
+    by true h = refl
+    by false h = subst (λ n. IsSome (slice_get (first ∷ units) n)) next h

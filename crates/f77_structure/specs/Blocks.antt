@@ -4,74 +4,67 @@ use Rattle.std.specs.Option.{option_to_list}
 use Rattle.f77_ast.specs.declared.program.Listed.{Listed}
 use Rattle.f77_ast.specs.declared.stmt.Stmt.{Stmt}
 use Rattle.f77_ast.specs.declared.stmt.Stmt as stmt
+use Rattle.f77_structure.specs.declared.blocks.IfPart.{IfPart}
+use Rattle.f77_structure.specs.declared.blocks.IfPart.TheVariants as part
 use Rattle.f77_structure.specs.declared.stretches.Stretch.{Stretch}
+
+-- which statement of a block IF a statement is; none of any other
+abbrev pub if_part : Stmt → Option IfPart
+if_part (stmt.Assign target value) = None
+if_part (stmt.Do terminal control) = None
+if_part stmt.Continue = None
+if_part stmt.Return = None
+if_part stmt.Else = Some part.Else
+if_part stmt.EndIf = Some part.EndIf
+if_part stmt.End = None
+if_part (stmt.Stop code) = None
+if_part (stmt.Goto label) = None
+if_part (stmt.ComputedGoto labels index) = None
+if_part (stmt.ArithmeticIf value negative zeroth positive) = None
+if_part (stmt.LogicalIf' condition pointer inner) = None
+if_part (stmt.BlockIf condition) = Some part.If
+if_part (stmt.ElseIf condition) = Some part.ElseIf
+if_part (stmt.Call name args) = None
+if_part (stmt.Print items) = None
+if_part (stmt.Read items) = None
+if_part (stmt.Program name) = None
+if_part (stmt.Subroutine name dummies) = None
+if_part (stmt.Function typ name dummies) = None
+if_part (stmt.Declare typ entities) = None
+if_part (stmt.Dimension arrays) = None
+if_part (stmt.Common groups) = None
+if_part (stmt.Equivalence groups) = None
+if_part (stmt.Parameter constants) = None
+if_part (stmt.Implicit rules) = None
+if_part (stmt.Save entries) = None
+if_part (stmt.Init groups) = None
 
 -- for each IF that is open behind a statement, the innermost first, the place of its last part so far: IF with THEN opens an
 -- IF, ELSE IF and ELSE are the next part of the innermost one, END IF closes it. Without an open IF they are part of none; an
 -- ELSE IF or ELSE after the ELSE of its IF is a part of it all the same
+abbrev pub parts_by : Option IfPart → (place : ℕ) → List ℕ → List ℕ
+parts_by None place parts = parts
+parts_by (Some part.If) place parts = place ∷ parts
+parts_by (Some part.ElseIf) place [] = []
+parts_by (Some part.ElseIf) place (before ∷ parts) = place ∷ parts
+parts_by (Some part.Else) place [] = []
+parts_by (Some part.Else) place (before ∷ parts) = place ∷ parts
+parts_by (Some part.EndIf) place [] = []
+parts_by (Some part.EndIf) place (before ∷ parts) = parts
+
 abbrev pub parts_behind : Stmt → (place : ℕ) → List ℕ → List ℕ
-parts_behind (stmt.Assign target value) place parts = parts
-parts_behind (stmt.Do terminal control) place parts = parts
-parts_behind stmt.Continue place parts = parts
-parts_behind stmt.Return place parts = parts
-parts_behind stmt.Else place [] = []
-parts_behind stmt.Else place (part ∷ parts) = place ∷ parts
-parts_behind stmt.EndIf place [] = []
-parts_behind stmt.EndIf place (part ∷ parts) = parts
-parts_behind stmt.End place parts = parts
-parts_behind (stmt.Stop code) place parts = parts
-parts_behind (stmt.Goto label) place parts = parts
-parts_behind (stmt.ComputedGoto labels index) place parts = parts
-parts_behind (stmt.ArithmeticIf value negative zeroth positive) place parts = parts
-parts_behind (stmt.LogicalIf' condition pointer inner) place parts = parts
-parts_behind (stmt.BlockIf condition) place parts = place ∷ parts
-parts_behind (stmt.ElseIf condition) place [] = []
-parts_behind (stmt.ElseIf condition) place (part ∷ parts) = place ∷ parts
-parts_behind (stmt.Call name args) place parts = parts
-parts_behind (stmt.Print items) place parts = parts
-parts_behind (stmt.Read items) place parts = parts
-parts_behind (stmt.Program name) place parts = parts
-parts_behind (stmt.Subroutine name dummies) place parts = parts
-parts_behind (stmt.Function typ name dummies) place parts = parts
-parts_behind (stmt.Declare typ entities) place parts = parts
-parts_behind (stmt.Dimension arrays) place parts = parts
-parts_behind (stmt.Common groups) place parts = parts
-parts_behind (stmt.Equivalence groups) place parts = parts
-parts_behind (stmt.Parameter constants) place parts = parts
-parts_behind (stmt.Implicit rules) place parts = parts
-parts_behind (stmt.Save entries) place parts = parts
-parts_behind (stmt.Init groups) place parts = parts
+parts_behind s place parts = parts_by (if_part s) place parts
 
 -- whether a statement ends the IF block before it: ELSE IF, ELSE or END IF
+abbrev pub ends_by : Option IfPart → Bool
+ends_by None = false
+ends_by (Some part.If) = false
+ends_by (Some part.ElseIf) = true
+ends_by (Some part.Else) = true
+ends_by (Some part.EndIf) = true
+
 abbrev pub ends_block : Stmt → Bool
-ends_block (stmt.Assign target value) = false
-ends_block (stmt.Do terminal control) = false
-ends_block stmt.Continue = false
-ends_block stmt.Return = false
-ends_block stmt.Else = true
-ends_block stmt.EndIf = true
-ends_block stmt.End = false
-ends_block (stmt.Stop code) = false
-ends_block (stmt.Goto label) = false
-ends_block (stmt.ComputedGoto labels index) = false
-ends_block (stmt.ArithmeticIf value negative zeroth positive) = false
-ends_block (stmt.LogicalIf' condition pointer inner) = false
-ends_block (stmt.BlockIf condition) = false
-ends_block (stmt.ElseIf condition) = true
-ends_block (stmt.Call name args) = false
-ends_block (stmt.Print items) = false
-ends_block (stmt.Read items) = false
-ends_block (stmt.Program name) = false
-ends_block (stmt.Subroutine name dummies) = false
-ends_block (stmt.Function typ name dummies) = false
-ends_block (stmt.Declare typ entities) = false
-ends_block (stmt.Dimension arrays) = false
-ends_block (stmt.Common groups) = false
-ends_block (stmt.Equivalence groups) = false
-ends_block (stmt.Parameter constants) = false
-ends_block (stmt.Implicit rules) = false
-ends_block (stmt.Save entries) = false
-ends_block (stmt.Init groups) = false
+ends_block s = ends_by (if_part s)
 
 -- an IF block is the statements, none or more, between an IF with THEN, an ELSE IF or an ELSE and the next ELSE IF, ELSE or
 -- END IF of the same IF: the block that ends before a statement at a place, by the last parts of the IFs that are open there

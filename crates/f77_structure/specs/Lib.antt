@@ -1,6 +1,7 @@
 pub mod Arrays
 pub mod Blocks
 pub mod Labels
+pub mod Laws
 pub mod Loops
 pub mod Needs
 pub mod Ranges

@@ -1,5 +1,5 @@
 -- Program units: how the statements of a file are cut into them, and their statements by place (ANSI X3.9-1978, section 2.4).
-use Rattle.std.specs.Prelude.{◌≡◌, ℕ, zero, suc, ◌+◌, Bool, true, not, List, [], ◌∷◌, ◌++◌, length, map, Option, None, Some, slice_get, if◌then◌else◌}
+use Rattle.std.specs.Prelude.{All, IsFalse, ◌≡◌, ℕ, zero, suc, ◌+◌, Bool, true, not, List, [], ◌∷◌, ◌++◌, length, map, Option, None, Some, slice_get, if◌then◌else◌}
 use Rattle.std.specs.List.{position_or_len, prefix_len}
 use Rattle.f77_ast.specs.declared.code.Code.{Code}
 use Rattle.f77_ast.specs.declared.program.Listed.{Listed}
@@ -46,11 +46,12 @@ unit_of listing = record { name = name_of listing; listing = listing; code = no_
 abbrev pub units_of : List Listed → List ProgramUnit
 units_of statements = map unit_of (cut statements)
 
--- statements, the last of which is END (ANSI X3.9-1978, sections 2.4 and 11.14)
+-- statements, of which the last one is END, and no other (ANSI X3.9-1978, sections 2.4 and 11.14)
 pub record EndsWithEnd (listing : List Listed) : Type 0 where
   pub before : List Listed
   pub last : Listed
   pub joined : listing ≡ before ++ last ∷ []
+  pub nowhere_else : All (λ listed. IsFalse (is_end listed.stmt)) before
   pub is_end : last.stmt ≡ End
 
 -- the statements of a unit; none where there is no such unit

@@ -4,6 +4,7 @@ use Rattle.std.specs.Cmp.Lexicographic.{slice_cmp}
 use Rattle.std.specs.Int.{int_rem_euclid}
 use Rattle.std.specs.declared.cmp.Ordering.{Ordering}
 use Rattle.std.specs.Ordering.{is_eq, is_ne, is_lt, is_le, is_gt, is_ge, nat_cmp, int_cmp, int_eq}
+use Rattle.hyb_base.specs.Reduction.{truth_of, number_of, agree}
 use Rattle.hyb_base.specs.Wrap.{sum_of, difference_of, product_of, negation_of, quotient_of, power_of}
 use Rattle.hyb_base.specs.declared.ops.Rel.{Rel}
 use Rattle.hyb_base.specs.declared.ops.Rel.TheVariants as relation
@@ -37,18 +38,13 @@ character_of number = unsigned_abs (int_rem_euclid number (pos 256))
 -- the value that the numbers in an entity's cells are: a LOGICAL is true where its number isn't 0
 abbrev pub value_of_units : Kind → List ℤ → Value
 value_of_units kind.Integer numbers = integer (only_number numbers)
-value_of_units kind.Logical numbers = truth (not (int_eq (only_number numbers) (pos 0)))
+value_of_units kind.Logical numbers = truth (truth_of (only_number numbers))
 value_of_units kind.Character numbers = chars (map character_of numbers)
-
--- the number that is written for a truth
-abbrev pub number_of_truth : Bool → ℤ
-number_of_truth true = pos 1
-number_of_truth false = pos 0
 
 -- the numbers that are written for a value, one for each cell
 abbrev pub units_of_value : Value → List ℤ
 units_of_value (integer number) = number ∷ []
-units_of_value (truth holds) = number_of_truth holds ∷ []
+units_of_value (truth holds) = number_of holds ∷ []
 units_of_value (chars text) = map pos text
 
 -- a text of a length: cut, or filled with blanks on the right (section 10.4)
@@ -117,11 +113,6 @@ related relop (integer x) right = on_integer (λ y. yields (truth (holds_by relo
 related relop (truth x) right = means_nothing
 related relop (chars x) right = on_chars (λ y. yields (truth (holds_by relop (compared_texts x y)))) right
 
--- whether two truths are the same
-abbrev pub are_equivalent : Bool → Bool → Bool
-are_equivalent true right = right
-are_equivalent false right = not right
-
 -- what an operator with one operand gives: `+`, `-` and `.NOT.` (sections 6.1.1 and 6.4.1)
 abbrev pub unary_of : Op → Value → Operated
 unary_of op.Plus = on_integer (λ x. yields (integer x))
@@ -153,8 +144,8 @@ binary_of op.Cat = on_texts (λ x y. yields (chars (x ++ y)))
 binary_of (op.Rel relop) = related relop
 binary_of op.And = on_truths (λ x y. yields (truth (x && y)))
 binary_of op.Or = on_truths (λ x y. yields (truth (x || y)))
-binary_of op.Eqv = on_truths (λ x y. yields (truth (are_equivalent x y)))
-binary_of op.Neqv = on_truths (λ x y. yields (truth (not (are_equivalent x y))))
+binary_of op.Eqv = on_truths (λ x y. yields (truth (agree x y)))
+binary_of op.Neqv = on_truths (λ x y. yields (truth (not (agree x y))))
 
 -- `+` and `-` before an operand (section 6.1.1)
 abbrev pub is_sign : Op → Bool

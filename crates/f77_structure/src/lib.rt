@@ -5,6 +5,8 @@
 //! them are here, each once.
 #![tactic(auto)]
 
+pub mod blocks;
+pub mod laws;
 pub mod operators;
 pub mod statements;
 pub mod storage;

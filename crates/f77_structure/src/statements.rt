@@ -1,7 +1,6 @@
 //! What a single statement is to its unit (ANSI X3.9-1978, sections 7, 11 and 15).
 ghost use Rattle.std.specs.Prelude.{◌≡◌};
 ghost use Rattle.f77_structure.specs.Statements.{is_executable, may_end_range, terminal_label, is_barrier, inner_of, is_end, begins_subprogram, header_name};
-ghost use Rattle.f77_structure.specs.Blocks.{ends_block};
 
 use f77_ast::name::Name;
 use f77_ast::stmt::{Label, Stmt};
@@ -293,41 +292,5 @@ pub fn header_name(stmt: &Stmt) -> Option<Name>
         Stmt::Implicit(_) => None,
         Stmt::Save(_) => None,
         Stmt::Init(_) => None,
-    }
-}
-
-/// Whether a statement ends the IF block before it: ELSE IF, ELSE or END IF (sections 11.7 to 11.9).
-pub fn ends_block(stmt: &Stmt) -> bool
-    ensures { result ≡ ends_block stmt.now }
-{
-    match stmt {
-        Stmt::Assign { .. } => false,
-        Stmt::Do { .. } => false,
-        Stmt::Continue => false,
-        Stmt::Return => false,
-        Stmt::Else => true,
-        Stmt::EndIf => true,
-        Stmt::End => false,
-        Stmt::Stop(_) => false,
-        Stmt::Goto(_) => false,
-        Stmt::ComputedGoto { .. } => false,
-        Stmt::ArithmeticIf { .. } => false,
-        Stmt::LogicalIf { .. } => false,
-        Stmt::BlockIf(_) => false,
-        Stmt::ElseIf(_) => true,
-        Stmt::Call { .. } => false,
-        Stmt::Print(_) => false,
-        Stmt::Read(_) => false,
-        Stmt::Program(_) => false,
-        Stmt::Subroutine { .. } => false,
-        Stmt::Function { .. } => false,
-        Stmt::Declare { .. } => false,
-        Stmt::Dimension(_) => false,
-        Stmt::Common(_) => false,
-        Stmt::Equivalence(_) => false,
-        Stmt::Parameter(_) => false,
-        Stmt::Implicit(_) => false,
-        Stmt::Save(_) => false,
-        Stmt::Init(_) => false,
     }
 }

@@ -1,12 +1,11 @@
-//! DO ranges and IF blocks, as stretches of a unit.
+//! DO ranges, as stretches of a unit (ANSI X3.9-1978, section 11.10).
 ghost use Rattle.std.specs.Prelude.{◌≡◌, ◌++◌, List, [], ◌∷◌, reverse, IfOk, OnOk, None, if◌then◌else◌};
 ghost use Rattle.std.specs.Option.{option_to_list, option_and_then};
-ghost use Rattle.f77_structure.specs.Blocks.{parts_behind, block_before, blocks_of};
 ghost use Rattle.f77_structure.specs.Statements.{terminal_label};
 ghost use Rattle.f77_structure.specs.Stretches.{holds, range_to, ranges_of};
 ghost use Rattle.f77_structure.specs.Targets.{place_of, AreTargets};
 
-use crate::statements::{ends_block, terminal_label};
+use crate::statements::terminal_label;
 use crate::targets::Targets;
 use f77_ast::program::Listed;
 use f77_ast::stmt::Stmt;
@@ -31,7 +30,7 @@ pub fn holds(stretch: &Stretch, place: usize) -> bool
 }
 
 /// Adds a stretch, if any.
-fn add(stretches: &mut Vec<Stretch>, stretch: Option<Stretch>) -> Result<(), NoMemory>
+pub fn add(stretches: &mut Vec<Stretch>, stretch: Option<Stretch>) -> Result<(), NoMemory>
     ensures { OnOk result (stretches.new.items ≡ stretches.old.items ++ option_to_list stretch) }
 {
     if let Some(stretch) = stretch {
@@ -84,68 +83,4 @@ pub fn ranges_of(
         add(&mut ranges, range)?;
     }
     Ok(ranges)
-}
-
-/// The block that ends before a statement, where these are the places of the last parts of the open IFs, the innermost
-/// one's last.
-fn block_before(stmt: &Stmt, place: usize, parts: &Vec<usize>) -> Option<Stretch>
-    ensures { result ≡ block_before stmt.now place (reverse parts.now.items) }
-{
-    match parts.last() {
-        None => None,
-        Some(part) => {
-            if ends_block(stmt) {
-                Some(Stretch {
-                    opens: *part,
-                    last: place.saturating_sub(1),
-                })
-            } else {
-                None
-            }
-        }
-    }
-}
-
-/// Goes on after a statement, where these are the places of the last parts of the open IFs, the innermost one's last.
-fn go_on(parts: &mut Vec<usize>, place: usize, stmt: &Stmt) -> Result<(), NoMemory>
-    ensures { OnOk result (reverse parts.new.items ≡ parts_behind stmt.now place (reverse parts.old.items)) }
-{
-    match stmt {
-        Stmt::BlockIf(_) => {
-            parts.push(place)?;
-            Ok(())
-        }
-        Stmt::ElseIf(_) => match parts.pop() {
-            None => Ok(()),
-            Some(_before) => {
-                parts.push(place)?;
-                Ok(())
-            }
-        },
-        Stmt::Else => match parts.pop() {
-            None => Ok(()),
-            Some(_before) => {
-                parts.push(place)?;
-                Ok(())
-            }
-        },
-        Stmt::EndIf => {
-            let _closed = parts.pop();
-            Ok(())
-        }
-        _ => Ok(()),
-    }
-}
-
-/// The IF blocks of a unit, in the order in which they end.
-pub fn blocks_of(alloc: Global, unit: &[Listed]) -> Result<Vec<Stretch>, NoMemory>
-    ensures { IfOk result (λ blocks. blocks.items ≡ blocks_of unit.now) }
-{
-    let mut blocks = Vec::new(alloc);
-    let mut parts: Vec<usize> = Vec::new(alloc);
-    for (place, listed) in unit.iter().enumerate() {
-        add(&mut blocks, block_before(&listed.stmt, place, &parts))?;
-        go_on(&mut parts, place, &listed.stmt)?;
-    }
-    Ok(blocks)
 }

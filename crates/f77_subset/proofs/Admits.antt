@@ -9,8 +9,9 @@ use Rattle.f77_ast.specs.declared.specification.TypedDeclarator.{TypedDeclarator
 use Rattle.f77_structure.specs.Storage.{storage_units_by}
 use Rattle.f77_subset.specs.declared.mention.Mention.{Mention}
 use Rattle.f77_subset.specs.declared.table.Table.{Table}
-use Rattle.f77_subset.specs.Names.{is_of, undeclared, firsts}
-use Rattle.f77_subset.specs.Rules.{storage_limit, declares_once}
+use Rattle.f77_subset.specs.Names.{found_out, is_of, undeclared, firsts}
+use Rattle.f77_ast.specs.Limits.{most_storage_units}
+use Rattle.f77_subset.specs.Rules.{declares_once}
 use Rattle.f77_subset.specs.Storage.{total_units}
 use Rattle.f77_subset.specs.Table.{table_of, and_then, placed, declared_by, all_declared, appeared, all_appeared}
 use Rattle.f77_subset.proofs.Firsts.{firsts_more, firsts_before, units_append, total_more, is_there, placed_is}
@@ -21,7 +22,7 @@ Where kept t = if kept then Some t else None
 
 -- whether names, each as often as it stands, take no more storage than they may
 abbrev pub small : List Declarator → Bool
-small xs = nat_le (total_units (firsts xs)) storage_limit
+small xs = nat_le (total_units (firsts xs)) most_storage_units
 
 le_less : (n m k : ℕ) → n ≤ m → nat_le m k ≡ true → nat_le n k ≡ true
 le_less n m k h e = grind (arith, e, h)
@@ -31,7 +32,7 @@ pub small_before : (xs ys : List Declarator) → small (xs ++ ys) ≡ true → s
 small_before xs ys h =
     let f = firsts_before xs ys in
     let u : total_units (firsts (xs ++ ys)) ≡ total_units (firsts xs) + total_units f.0 = ap total_units f.1 ∙ units_append (firsts xs) f.0 in
-    le_less (total_units (firsts xs)) (total_units (firsts (xs ++ ys))) storage_limit (omega arith) h
+    le_less (total_units (firsts xs)) (total_units (firsts (xs ++ ys))) most_storage_units (omega arith) h
 
 pub large_before : (xs ys : List Declarator) → small xs ≡ false → small (xs ++ ys) ≡ false
 large_before xs ys h = by (small (xs ++ ys)) refl
@@ -58,7 +59,7 @@ module _ (programs : List (List ℕ)) where
   declared_by_is xs d false false e =
       let names : firsts (xs ++ d ∷ []) ≡ firsts xs ++ d ∷ [] = firsts_more xs d ∙ ap (λ t. firsts xs ++ (if t then [] else d ∷ [])) e in
       placed_is programs (firsts xs) d
-      ∙ (λ i. Where (nat_le 1 (storage_units_by d.bounds) && nat_le (sym (ap total_units names ∙ total_more (firsts xs) d) i) storage_limit) (table_of programs (sym names i)))
+      ∙ (λ i. Where (nat_le 1 (storage_units_by d.bounds) && nat_le (sym (ap total_units names ∙ total_more (firsts xs) d) i) most_storage_units) (table_of programs (sym names i)))
 
   declared_step : (xs : List Declarator) (d : Declarator) → declared_by (table_of programs (firsts xs)) d ≡ Where (fine xs d && small (xs ++ d ∷ [])) (table_of programs (firsts (xs ++ d ∷ [])))
   declared_step xs d =
@@ -84,7 +85,7 @@ module _ (programs : List (List ℕ)) where
       ∙ fine_by (list_any (is_of e.name) xs) (list_any (pointwise nat_eq e.name) programs) (is_of e.name d) (nat_le 1 (storage_units_by e.bounds)) (list_all (fine xs) ds) (list_any (λ later. is_of later.name d) ds)
 
   abbrev pub declarators : List TypedDeclarator → List Declarator
-  declarators entities = map (λ entity. entity.declarator) entities
+  declarators entities = map (λ entity. found_out entity.declarator) entities
 
   -- whether names may be declared behind others
   abbrev pub may_all : (xs ds : List Declarator) → Bool
@@ -108,7 +109,7 @@ module _ (programs : List (List ℕ)) where
       ∙ by (fine xs d) (small (xs ++ d ∷ [])) refl refl (λ k. declared_all entities (xs ++ d ∷ []) k)
     where
       d : Declarator
-      d = entity.declarator
+      d = found_out entity.declarator
 
       ds : List Declarator
       ds = declarators entities
@@ -135,11 +136,11 @@ module _ (programs : List (List ℕ)) where
       → (if any then Some (table_of programs (firsts xs)) else placed (table_of programs (firsts xs)) (undeclared m)) ≡ Where (small (xs ++ undeclared m ∷ [])) (table_of programs (firsts (xs ++ undeclared m ∷ [])))
   appeared_by xs m true e s =
       let names : firsts (xs ++ undeclared m ∷ []) ≡ firsts xs = firsts_more xs (undeclared m) ∙ ap (λ t. firsts xs ++ (if t then [] else undeclared m ∷ [])) e ∙ append-nil (firsts xs) in
-      λ i. Where (sym (ap (λ l. nat_le (total_units l) storage_limit) names ∙ s) i) (table_of programs (sym names i))
+      λ i. Where (sym (ap (λ l. nat_le (total_units l) most_storage_units) names ∙ s) i) (table_of programs (sym names i))
   appeared_by xs m false e s =
       let names : firsts (xs ++ undeclared m ∷ []) ≡ firsts xs ++ undeclared m ∷ [] = firsts_more xs (undeclared m) ∙ ap (λ t. firsts xs ++ (if t then [] else undeclared m ∷ [])) e in
       placed_is programs (firsts xs) (undeclared m)
-      ∙ (λ i. Where (nat_le (sym (ap total_units names ∙ total_more (firsts xs) (undeclared m)) i) storage_limit) (table_of programs (sym names i)))
+      ∙ (λ i. Where (nat_le (sym (ap total_units names ∙ total_more (firsts xs) (undeclared m)) i) most_storage_units) (table_of programs (sym names i)))
 
   appeared_step : (xs : List Declarator) (m : Mention) → small xs ≡ true → appeared (table_of programs (firsts xs)) m ≡ Where (small (xs ++ undeclared m ∷ [])) (table_of programs (firsts (xs ++ undeclared m ∷ [])))
   appeared_step xs m s =

@@ -10,7 +10,7 @@ use Rattle.f77_ast.specs.declared.specification.Bound.{Bound}
 use Rattle.f77_ast.specs.declared.specification.Declarator.{Declarator}
 use Rattle.f77_structure.specs.Storage.{storage_units_by}
 use Rattle.f77_subset.specs.Names.{is_of, firsts}
-use Rattle.f77_subset.specs.Rules.{storage_limit}
+use Rattle.f77_ast.specs.Limits.{most_storage_units}
 use Rattle.f77_subset.specs.Storage.{total_units, entity_at, entities_from, regions_from}
 use Rattle.f77_subset.specs.Table.{table_of, placed, behind}
 
@@ -135,5 +135,5 @@ behind_is programs names d =
     λ i. record { entities = e i; regions = r i; total = sym (total_more names d) i; programs = programs }
 
 pub placed_is : (programs : List (List ℕ)) (names : List Declarator) (d : Declarator)
-    → placed (table_of programs names) d ≡ (if nat_le 1 (storage_units_by d.bounds) && nat_le (total_units names + storage_units_by d.bounds) storage_limit then Some (table_of programs (names ++ d ∷ [])) else None)
-placed_is programs names d = λ i. if nat_le 1 (storage_units_by d.bounds) && nat_le (total_units names + storage_units_by d.bounds) storage_limit then Some (behind_is programs names d i) else None
+    → placed (table_of programs names) d ≡ (if nat_le 1 (storage_units_by d.bounds) && nat_le (total_units names + storage_units_by d.bounds) most_storage_units then Some (table_of programs (names ++ d ∷ [])) else None)
+placed_is programs names d = λ i. if nat_le 1 (storage_units_by d.bounds) && nat_le (total_units names + storage_units_by d.bounds) most_storage_units then Some (behind_is programs names d i) else None

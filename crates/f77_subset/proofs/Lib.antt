@@ -1,9 +1,9 @@
 pub mod Admits
 pub mod Firsts
 pub mod Lists
-pub mod Passes
-pub mod Resolves
 pub mod LoopsSoFar
+pub mod Meaning
+pub mod Passes
 pub mod Satisfies
 pub mod Standing
 pub mod Statements

@@ -6,7 +6,9 @@ use Rattle.f77_ast.specs.declared.program.Layout.{Layout}
 use Rattle.f77_ast.specs.declared.program.Listed.{Listed}
 use Rattle.f77_ast.specs.declared.program.Loop.{Loop}
 use Rattle.f77_ast.specs.declared.program.Unit.{Unit as ProgramUnit}
+use Rattle.f77_ast.specs.Refusal.{refusal_by}
 use Rattle.f77_ast.specs.declared.refusal.Refusal.{Refusal}
+use Rattle.f77_ast.specs.declared.rule.Rule.TheVariants.{LeftOut}
 use Rattle.f77_ast.specs.declared.stmt.Stmt.{Stmt}
 use Rattle.f77_subset.specs.declared.pass.Pass.{Pass}
 use Rattle.f77_subset.specs.Built.{is_built}
@@ -109,21 +111,21 @@ outcome (one ∷ rest) loops ss p h = by (keeps loops ss one.stmt) refl (one_tak
     goes : (q : Pass) → keeps loops ss one.stmt ≡ true → taken loops p one.stmt ≡ Some q → AllTaken loops (ss ++ one.stmt ∷ []) q rest ⊎ Refused loops (ss ++ one.stmt ∷ []) q rest → AllTaken loops ss p (one ∷ rest) ⊎ Refused loops ss p (one ∷ rest)
     goes q e f (inl a) = inl (record {
       new = a.new;
-      kept = ap (λ t. if t then first_break loops (ss ++ one.stmt ∷ []) rest else Some (record { line = one.card.line; code = 21 })) e ∙ a.kept;
+      kept = ap (λ t. if t then first_break loops (ss ++ one.stmt ∷ []) rest else Some (refusal_by one.card.line LeftOut)) e ∙ a.kept;
       taken = ap (λ o. on_pass o one.card.line (λ next. all_taken loops next rest)) f ∙ a.taken;
       after = subst (λ l. After loops l a.new) (append_assoc ss (one.stmt ∷ []) (stmts rest)) a.after;
     })
     goes q e f (inr r) = inr (record {
       refusal = r.refusal;
-      broken = ap (λ t. if t then first_break loops (ss ++ one.stmt ∷ []) rest else Some (record { line = one.card.line; code = 21 })) e ∙ r.broken;
+      broken = ap (λ t. if t then first_break loops (ss ++ one.stmt ∷ []) rest else Some (refusal_by one.card.line LeftOut)) e ∙ r.broken;
       refused = ap (λ o. on_pass o one.card.line (λ next. all_taken loops next rest)) f ∙ r.refused;
     })
 
     by : (t : Bool) → keeps loops ss one.stmt ≡ t → Taken loops ss p one.stmt h t → ((q : Pass) → After loops (ss ++ one.stmt ∷ []) q → AllTaken loops (ss ++ one.stmt ∷ []) q rest ⊎ Refused loops (ss ++ one.stmt ∷ []) q rest) → AllTaken loops ss p (one ∷ rest) ⊎ Refused loops ss p (one ∷ rest)
     by true e found rec = goes found.0 e found.1 (rec found.0 found.2)
     by false e found rec = inr (record {
-      refusal = record { line = one.card.line; code = 21 };
-      broken = ap (λ t. if t then first_break loops (ss ++ one.stmt ∷ []) rest else Some (record { line = one.card.line; code = 21 })) e;
+      refusal = refusal_by one.card.line LeftOut;
+      broken = ap (λ t. if t then first_break loops (ss ++ one.stmt ∷ []) rest else Some (refusal_by one.card.line LeftOut)) e;
       refused = ap (λ o. on_pass o one.card.line (λ next. all_taken loops next rest)) found;
     })
 

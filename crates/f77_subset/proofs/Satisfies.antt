@@ -13,24 +13,29 @@ use Rattle.f77_ast.specs.declared.program.Listed.{Listed}
 use Rattle.f77_ast.specs.declared.program.Loop.{Loop}
 use Rattle.f77_ast.specs.declared.program.Place.TheVariants.{Stored}
 use Rattle.f77_ast.specs.declared.program.Unit.{Unit as ProgramUnit}
+use Rattle.f77_ast.specs.Refusal.{refusal_by}
 use Rattle.f77_ast.specs.declared.refusal.Refusal.{Refusal}
+use Rattle.f77_ast.specs.declared.rule.Rule.TheVariants.{LeftOut}
 use Rattle.f77_ast.specs.declared.specification.Bound.{Bound}
 use Rattle.f77_ast.specs.declared.specification.Declarator.{Declarator}
 use Rattle.f77_ast.specs.declared.stmt.Stmt.{Stmt, Declare}
-use Rattle.f77_structure.specs.Resolves.{statement_resolves}
-use Rattle.f77_structure.specs.Storage.{storage_units_by, is_scalar, is_vector, storage_units_of_all, region_of, LiesIn, IsStorage, IsLaidOut}
+use Rattle.f77_structure.specs.HasMeaning.{statement_has_meaning}
+use Rattle.f77_structure.specs.Values.{is_integer_kind}
+use Rattle.f77_structure.specs.Storage.{span_of, extent_by, storage_units_by, is_scalar, is_vector, storage_units_of_all, region_of, LiesIn, IsStorage, IsLaidOut}
+use Rattle.f77_structure.specs.declared.storage.Span.{Span}
 use Rattle.f77_subset.specs.declared.mention.Mention.{Mention}
 use Rattle.f77_subset.specs.declared.mention.Standing.{Standing}
 use Rattle.f77_subset.specs.declared.mention.Standing.TheVariants.{Variable, Element, WholeItem}
 use Rattle.f77_subset.specs.Built.{is_built}
 use Rattle.f77_subset.specs.Names.{mentioned_in, declared_in, is_of, undeclared, firsts, appearing_in, names_of, declarations}
-use Rattle.f77_subset.specs.Rules.{storage_limit, are_bounds, is_array, may_stand, is_integer, is_no_program, may_declare, may_mention, names_keep, storage_keeps, variables_keep}
+use Rattle.f77_ast.specs.Limits.{most_storage_units}
+use Rattle.f77_subset.specs.Rules.{are_bounds, is_array, may_stand, is_integer, is_no_program, may_declare, may_mention, names_keep, storage_keeps, variables_keep}
 use Rattle.f77_subset.specs.Storage.{total_units, entity_at, entities_from, regions_from, layout_of}
 use Rattle.f77_subset.specs.Subset.{keeps, first_break, listing_of, statements_of, unless_refused, subset_of}
 use Rattle.f77_subset.proofs.Admits.{small}
 use Rattle.f77_subset.proofs.Firsts.{any_is_find, own_name, find_firsts, bounds_found}
 use Rattle.f77_subset.proofs.Passes.{stmts, statements_are}
-use Rattle.f77_subset.proofs.Resolves.{good_by, good, statement_by}
+use Rattle.f77_subset.proofs.Meaning.{good_by, good, statement_by}
 use Rattle.f77_subset.proofs.Standing.{appearing, appearing_more, declarations_more, Kept, none_kept, NamesKept, names_kept, found_passes, kept_more}
 
 -- ---- storage
@@ -40,10 +45,10 @@ lie_from total at [] le = λ k d lt. absurd (omega (arith, lt))
 lie_from total at (d ∷ ds) le =
     All-cons (LiesIn total) (entity_at at d) (entities_from (at + storage_units_by d.bounds) ds) (record { stored = refl; within = omega arith }) (lie_from total (at + storage_units_by d.bounds) ds (omega arith))
 
-is_storage : (ds : List Declarator) → nat_le (total_units ds) storage_limit ≡ true → IsStorage (layout_of ds)
+is_storage : (ds : List Declarator) → nat_le (total_units ds) most_storage_units ≡ true → IsStorage (layout_of ds)
 is_storage ds fits =
     let l : length (replicate (total_units ds) (pos 0)) ≡ total_units ds = length-replicate (total_units ds) (pos 0) in
-    let s : total_units ds ≤ 1000000 = grind (arith, fits) in
+    let s : total_units ds ≤ most_storage_units = grind (arith, fits) in
     record {
       total = sym l;
       lie = lie_from (length (replicate (total_units ds) (pos 0))) 0 ds (omega arith);
@@ -110,26 +115,43 @@ sized_more ss s sized names =
 -- bounds that leave an element are those of a variable, or of an array of one dimension
 vector_is : (bounds : List Bound) → nat_le 1 (storage_units_by bounds) ≡ true → is_vector bounds ≡ are_bounds bounds
 vector_is [] e = refl
-vector_is (b ∷ []) e = refl
+vector_is (b ∷ []) e = by (span_of b) e
+  where
+    by : (o : Option Span) → nat_le 1 (extent_by o) ≡ true → is_some o ≡ true
+    by None e = cc
+    by (Some span) e = refl
 vector_is (b ∷ c ∷ bounds) e = cc
 
 scalar_is : (bounds : List Bound) → is_scalar bounds ≡ not (are_bounds bounds)
 scalar_is [] = refl
 scalar_is (b ∷ bounds) = refl
 
--- an entity with these bounds is named well
-well_named : (entity : Entity) (bounds : List Bound) (standing : Standing) → entity.bounds ≡ bounds → nat_le 1 (storage_units_by bounds) ≡ true → may_stand (are_bounds bounds) standing ≡ true → good_by (Some entity) standing ≡ true
-well_named entity bounds Variable same has may = ap is_scalar same ∙ scalar_is bounds ∙ may
-well_named entity bounds Element same has may = ap is_vector same ∙ vector_is bounds has ∙ may
-well_named entity bounds WholeItem same has may = (λ i. is_scalar (same i) || is_vector (same i)) ∙ (λ i. scalar_is bounds i || vector_is bounds has i) ∙ by (are_bounds bounds)
+-- an INTEGER entity with these bounds is used well
+used_well : (entity : Entity) (bounds : List Bound) (standing : Standing) → is_integer_kind entity.kind ≡ true → entity.bounds ≡ bounds → nat_le 1 (storage_units_by bounds) ≡ true → may_stand (are_bounds bounds) standing ≡ true → good_by (Some entity) standing ≡ true
+used_well entity bounds Variable kind same has may = and_from (is_integer_kind entity.kind) (is_scalar entity.bounds) kind (ap is_scalar same ∙ scalar_is bounds ∙ may)
+used_well entity bounds Element kind same has may = and_from (is_integer_kind entity.kind) (is_vector entity.bounds) kind (ap is_vector same ∙ vector_is bounds has ∙ may)
+used_well entity bounds WholeItem kind same has may = (λ i. (kind i && is_scalar (same i)) || (kind i && is_vector (same i))) ∙ (λ i. scalar_is bounds i || vector_is bounds has i) ∙ by (are_bounds bounds)
   where
     by : (t : Bool) → (not t || t) ≡ true
     by true = refl
     by false = refl
 
-good_found : (o : Option Entity) (d : Declarator) (standing : Standing) → option_map (λ e. e.bounds) o ≡ Some d.bounds → Has d ≡ true → may_stand (are_bounds d.bounds) standing ≡ true → good_by o standing ≡ true
-good_found None d standing e has may = cc
-good_found (Some entity) d standing e has may = let k : entity.bounds ≡ d.bounds = cc in well_named entity d.bounds standing k has may
+-- an entity that may be there is INTEGER
+abbrev IsInteger : Option Entity → Type 0
+IsInteger None = Unit {0}
+IsInteger (Some entity) = is_integer_kind entity.kind ≡ true
+
+integer_found : (n : List ℕ) (at : ℕ) (ds : List Declarator) → IsInteger (entity_in (entities_from at ds) 0 n)
+integer_found n at [] = tt
+integer_found n at (d ∷ ds) = by (is_of n d) (integer_found n (at + storage_units_by d.bounds) ds)
+  where
+    by : (p : Bool) → IsInteger (entity_in (entities_from (at + storage_units_by d.bounds) ds) 0 n) → IsInteger (if p then Some (entity_at at d) else entity_in (entities_from (at + storage_units_by d.bounds) ds) 0 n)
+    by true rest = refl
+    by false rest = rest
+
+good_found : (o : Option Entity) (d : Declarator) (standing : Standing) → IsInteger o → option_map (λ e. e.bounds) o ≡ Some d.bounds → Has d ≡ true → may_stand (are_bounds d.bounds) standing ≡ true → good_by o standing ≡ true
+good_found None d standing kind e has may = cc
+good_found (Some entity) d standing kind e has may = let k : entity.bounds ≡ d.bounds = cc in used_well entity d.bounds standing kind k has may
 
 -- whether a name stands there
 stands_undeclared : (m : Mention) (ms more : List Mention) → list_any (is_of m.name) (map undeclared (ms ++ m ∷ more)) ≡ true
@@ -156,7 +178,7 @@ module _ (ss : List Stmt) (s : Stmt) (rest : List Declarator) (kept : Kept (ss +
       bounds_found m.name 0 (firsts Whole) ∙ ap (λ o. option_map (λ d. d.bounds) o) (find_firsts m.name Whole ∙ find-append (is_of m.name) (appearing (ss ++ s ∷ [])) rest ∙ ap (λ o. option_or o (find (is_of m.name) rest)) found) in
       let p = and_parts (is_integer (declarations ss) m.name && is_no_program ss m.name) (may_stand (is_array (declarations ss) m.name) m.standing) may in
       let a : is_array (declarations ss) m.name ≡ are_bounds d.bounds = ap (λ l. is_array l m.name) (sym ds) ∙ f.array in
-      good_found (entity_in (entities_from 0 (firsts Whole)) 0 m.name) d m.standing b (found_passes (is_of m.name) Has (appearing (ss ++ s ∷ [])) d sized found) (ap (λ t. may_stand t m.standing) (sym a) ∙ p.1)
+      good_found (entity_in (entities_from 0 (firsts Whole)) 0 m.name) d m.standing (integer_found m.name 0 (firsts Whole)) b (found_passes (is_of m.name) Has (appearing (ss ++ s ∷ [])) d sized found) (ap (λ t. may_stand t m.standing) (sym a) ∙ p.1)
 
   there : (m : Mention) (before more : List Mention) → mentioned_in s ≡ before ++ m ∷ more → list_any (is_of m.name) (appearing (ss ++ s ∷ [])) ≡ true
   there m before more e =
@@ -201,13 +223,13 @@ keeps_parts loops ss s e =
 next_kept : (loops : List Loop) (ss : List Stmt) (one : Listed) (rest : List Listed) → first_break loops ss (one ∷ rest) ≡ None → (keeps loops ss one.stmt ≡ true) × (first_break loops (ss ++ one.stmt ∷ []) rest ≡ None)
 next_kept loops ss one rest e = by (keeps loops ss one.stmt) e
   where
-    by : (t : Bool) → (if t then first_break loops (ss ++ one.stmt ∷ []) rest else Some (record { line = one.card.line; code = 21 })) ≡ None → (t ≡ true) × (first_break loops (ss ++ one.stmt ∷ []) rest ≡ None)
+    by : (t : Bool) → (if t then first_break loops (ss ++ one.stmt ∷ []) rest else Some (refusal_by one.card.line LeftOut)) ≡ None → (t ≡ true) × (first_break loops (ss ++ one.stmt ∷ []) rest ≡ None)
     by true e = (refl, e)
     by false e = cc
 
--- each statement is built and resolves in the layout of all
+-- each statement is built and has a meaning in the layout of all
 abbrev Fine : Layout → Listed → Type 0
-Fine layout one = IsTrue (is_built one.stmt) × IsTrue (statement_resolves layout 0 one.stmt)
+Fine layout one = IsTrue (is_built one.stmt) × IsTrue (statement_has_meaning layout 0 one.stmt)
 
 -- all names in the rest of the statements
 abbrev Rest : List Listed → List Declarator
@@ -278,5 +300,5 @@ fine_law loops units layout e =
 pub built_law : (loops : List Loop) (units : List ProgramUnit) (layout : Layout) → subset_of loops units ≡ Ok layout → All (λ listed. IsTrue (is_built listed.stmt)) (listing_of units)
 built_law loops units layout e = weaker (Fine layout) (λ listed. IsTrue (is_built listed.stmt)) (listing_of units) (λ x h. h.0) (fine_law loops units layout e)
 
-pub resolve_law : (loops : List Loop) (units : List ProgramUnit) (layout : Layout) → subset_of loops units ≡ Ok layout → All (λ listed. IsTrue (statement_resolves layout 0 listed.stmt)) (listing_of units)
-resolve_law loops units layout e = weaker (Fine layout) (λ listed. IsTrue (statement_resolves layout 0 listed.stmt)) (listing_of units) (λ x h. h.1) (fine_law loops units layout e)
+pub meaning_law : (loops : List Loop) (units : List ProgramUnit) (layout : Layout) → subset_of loops units ≡ Ok layout → All (λ listed. IsTrue (statement_has_meaning layout 0 listed.stmt)) (listing_of units)
+meaning_law loops units layout e = weaker (Fine layout) (λ listed. IsTrue (statement_has_meaning layout 0 listed.stmt)) (listing_of units) (λ x h. h.1) (fine_law loops units layout e)

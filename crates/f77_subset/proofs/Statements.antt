@@ -7,7 +7,7 @@ use Rattle.f77_ast.specs.declared.specification.TypedDeclarator.{TypedDeclarator
 use Rattle.f77_ast.specs.declared.stmt.Stmt.{Stmt, Program, Declare}
 use Rattle.f77_structure.specs.Storage.{storage_units_by}
 use Rattle.f77_subset.specs.declared.table.Table.{Table}
-use Rattle.f77_subset.specs.Names.{mentioned_in, declared_in, undeclared, firsts}
+use Rattle.f77_subset.specs.Names.{found_out, mentioned_in, declared_in, undeclared, firsts}
 use Rattle.f77_subset.specs.Rules.{may_declare, may_mention, declares_once, names_keep, storage_keeps}
 use Rattle.f77_subset.specs.Table.{table_of, all_declared, all_mentioned, with_program, admitted}
 use Rattle.f77_subset.proofs.Firsts.{any_firsts}
@@ -31,9 +31,9 @@ all_fine : (ss : List Stmt) (ds : List Declarator) → list_all (fine (programs_
 all_fine ss [] = refl
 all_fine ss (d ∷ ds) = λ i. fine_is ss d i && all_fine ss ds i
 
-admits_declare : (ss : List Stmt) (s : Stmt) (entities : List TypedDeclarator) → Kept ss → declared_in s ≡ map (λ entity. entity.declarator) entities → mentioned_in s ≡ [] → program_in s ≡ [] → all_declared (table_after ss) entities ≡ Comes ss s
+admits_declare : (ss : List Stmt) (s : Stmt) (entities : List TypedDeclarator) → Kept ss → declared_in s ≡ map (λ entity. found_out entity.declarator) entities → mentioned_in s ≡ [] → program_in s ≡ [] → all_declared (table_after ss) entities ≡ Comes ss s
 admits_declare ss s entities kept those none neither =
-    let ds = map (λ entity. entity.declarator) entities in
+    let ds = map (λ entity. found_out entity.declarator) entities in
     let xs : appearing (ss ++ s ∷ []) ≡ appearing ss ++ ds = appearing_more ss s ∙ (λ i. appearing ss ++ (those i ++ map undeclared (none i))) ∙ ap (λ l. appearing ss ++ l) (append-nil ds) in
     let ps : programs_of (ss ++ s ∷ []) ≡ programs_of ss = programs_more ss s ∙ ap (λ l. programs_of ss ++ l) neither ∙ append-nil (programs_of ss) in
     declared_all (programs_of ss) entities (appearing ss) kept.small

@@ -6,38 +6,25 @@ use Rattle.f77_ast.specs.declared.expr.Expr.{Expr, out-Expr}
 use Rattle.f77_ast.specs.declared.expr.Expr.TheFolds.{fold-Expr, fold-Ref}
 use Rattle.f77_ast.specs.declared.expr.Expr.TheOpen.{Expr-F, Part-F, Ref-F}
 use Rattle.f77_ast.specs.declared.expr.Expr.TheOpen as layer
-use Rattle.f77_ast.specs.declared.expr.Op.{Op}
-use Rattle.f77_ast.specs.declared.expr.Op.TheVariants.{Plus, Neg, Add, Sub, Mul, Div, Pow}
 use Rattle.f77_ast.specs.declared.expr.Part.{Part}
 use Rattle.f77_ast.specs.declared.expr.Ref.{Ref}
 use Rattle.f77_ast.specs.declared.specification.Bound.{Bound}
 use Rattle.f77_ast.specs.declared.specification.TypeSpec.{TypeSpec}
-use Rattle.f77_ast.specs.declared.specification.TypeSpec.TheVariants.{Integer}
+use Rattle.f77_ast.specs.declared.specification.TypeSpec.TheVariants as typ
 use Rattle.f77_ast.specs.declared.specification.TypedDeclarator.{TypedDeclarator}
-use Rattle.f77_ast.specs.declared.stmt.Item.{Item, Plain}
+use Rattle.f77_ast.specs.declared.stmt.Item.{Item}
+use Rattle.f77_ast.specs.declared.stmt.Item as item
 use Rattle.f77_ast.specs.declared.stmt.LoopControl.{LoopControl}
-use Rattle.f77_ast.specs.declared.stmt.Stmt.{Stmt, Assign, Do, Continue, End, Print, Program, Declare}
-
--- `+` and `-` before an operand
-abbrev pub is_sign : Op → Bool
-is_sign Plus = true
-is_sign Neg = true
-is_sign _ = false
-
--- `+`, `-`, `*`, `/` and `**` between two operands
-abbrev pub is_arithmetic : Op → Bool
-is_arithmetic Add = true
-is_arithmetic Sub = true
-is_arithmetic Mul = true
-is_arithmetic Div = true
-is_arithmetic Pow = true
-is_arithmetic _ = false
+use Rattle.f77_ast.specs.declared.stmt.Stmt.{Stmt}
+use Rattle.f77_ast.specs.declared.stmt.Stmt as stmt
+use Rattle.f77_structure.specs.Values.{is_sign, is_arithmetic}
 
 -- no subscript, or one
 abbrev pub has_one_at_most : Option (List Bool) → Bool
 has_one_at_most None = true
 has_one_at_most (Some (subscript ∷ [])) = subscript
-has_one_at_most _ = false
+has_one_at_most (Some []) = false
+has_one_at_most (Some (first ∷ second ∷ subscripts)) = false
 
 -- numbers, references with one subscript at most and no substring, arithmetic operators and parentheses
 abbrev pub expr_step : Expr-F Bool (Unit {0}) Bool → Bool
@@ -74,13 +61,18 @@ control_is_built control = expr_is_built control.first && (expr_is_built control
 
 -- whether an item of PRINT is: no implied DO
 abbrev pub item_is_built : Item → Bool
-item_is_built (Plain value) = expr_is_built value
-item_is_built _ = false
+item_is_built (item.Plain value) = expr_is_built value
+item_is_built (item.Implied' items rest control) = false
 
 -- digits
 abbrev pub is_digits : Expr-F Expr Part Ref → Bool
 is_digits (layer.Int value) = true
-is_digits _ = false
+is_digits (layer.Truth value) = false
+is_digits (layer.Chars text) = false
+is_digits (layer.Ref reference) = false
+is_digits (layer.Unary op operand) = false
+is_digits (layer.Binary op left right) = false
+is_digits (layer.Paren inner) = false
 
 abbrev pub is_upper : Option Expr → Bool
 is_upper None = false
@@ -94,24 +86,45 @@ bound_is_built bound = is_none bound.low && is_upper bound.high
 abbrev pub bounds_are_built : List Bound → Bool
 bounds_are_built [] = true
 bounds_are_built (bound ∷ []) = bound_is_built bound
-bounds_are_built _ = false
+bounds_are_built (first ∷ second ∷ bounds) = false
 
 -- a declared name without a length of its own
 abbrev pub entity_is_built : TypedDeclarator → Bool
 entity_is_built entity = is_none entity.length && bounds_are_built entity.declarator.bounds
 
 abbrev pub is_integer_type : TypeSpec → Bool
-is_integer_type Integer = true
-is_integer_type _ = false
+is_integer_type typ.Integer = true
+is_integer_type typ.Logical = false
+is_integer_type (typ.Character len) = false
 
 -- whether a statement is built: PROGRAM; INTEGER of variables and arrays of one dimension; assignments, DO, CONTINUE and
 -- PRINT of such expressions; END
 abbrev pub is_built : Stmt → Bool
-is_built (Assign target value) = ref_is_built target && expr_is_built value
-is_built (Do terminal control) = control_is_built control
-is_built Continue = true
-is_built End = true
-is_built (Print items) = list_all item_is_built items
-is_built (Program name) = true
-is_built (Declare typ entities) = is_integer_type typ && list_all entity_is_built entities
-is_built _ = false
+is_built (stmt.Assign target value) = ref_is_built target && expr_is_built value
+is_built (stmt.Do terminal control) = control_is_built control
+is_built stmt.Continue = true
+is_built stmt.Return = false
+is_built stmt.Else = false
+is_built stmt.EndIf = false
+is_built stmt.End = true
+is_built (stmt.Stop code) = false
+is_built (stmt.Goto label) = false
+is_built (stmt.ComputedGoto labels index) = false
+is_built (stmt.ArithmeticIf value negative zeroth positive) = false
+is_built (stmt.LogicalIf' condition pointer inner) = false
+is_built (stmt.BlockIf condition) = false
+is_built (stmt.ElseIf condition) = false
+is_built (stmt.Call name args) = false
+is_built (stmt.Print items) = list_all item_is_built items
+is_built (stmt.Read items) = false
+is_built (stmt.Program name) = true
+is_built (stmt.Subroutine name dummies) = false
+is_built (stmt.Function kind name dummies) = false
+is_built (stmt.Declare declared entities) = is_integer_type declared && list_all entity_is_built entities
+is_built (stmt.Dimension arrays) = false
+is_built (stmt.Common groups) = false
+is_built (stmt.Equivalence groups) = false
+is_built (stmt.Parameter constants) = false
+is_built (stmt.Implicit rules) = false
+is_built (stmt.Save entries) = false
+is_built (stmt.Init groups) = false

@@ -3,7 +3,7 @@ use Rattle.std.specs.Prelude.{◌≡◌, List, All, IsTrue, Ok}
 use Rattle.f77_ast.specs.declared.program.Layout.{Layout}
 use Rattle.f77_ast.specs.declared.program.Loop.{Loop}
 use Rattle.f77_ast.specs.declared.program.Unit.{Unit as ProgramUnit}
-use Rattle.f77_structure.specs.Resolves.{statement_resolves}
+use Rattle.f77_structure.specs.HasMeaning.{statement_has_meaning}
 use Rattle.f77_structure.specs.Storage.{IsStorage, IsLaidOut}
 use Rattle.f77_subset.specs.Built.{is_built}
 use Rattle.f77_subset.specs.Subset.{listing_of, subset_of}
@@ -21,8 +21,8 @@ abbrev pub StatementsAreBuilt : Type 0
 StatementsAreBuilt =
     (loops : List Loop) (units : List ProgramUnit) (layout : Layout) → subset_of loops units ≡ Ok layout → All (λ listed. IsTrue (is_built listed.stmt)) (listing_of units)
 
--- all references name entities of the layout
-abbrev pub StatementsResolve : Type 0
-StatementsResolve =
+-- all statements have a meaning in the layout
+abbrev pub StatementsHaveMeaning : Type 0
+StatementsHaveMeaning =
     (loops : List Loop) (units : List ProgramUnit) (layout : Layout) → subset_of loops units ≡ Ok layout
-    → All (λ listed. IsTrue (statement_resolves layout 0 listed.stmt)) (listing_of units)
+    → All (λ listed. IsTrue (statement_has_meaning layout 0 listed.stmt)) (listing_of units)

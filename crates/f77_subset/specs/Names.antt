@@ -1,16 +1,19 @@
 -- The names of statements: those that INTEGER declares, those that stand in the other statements, and that of PROGRAM.
-use Rattle.std.specs.Prelude.{ℕ, Bool, false, not, List, [], ◌∷◌, ◌++◌, map, filter, Option, None, Some, nat_eq}
+use Rattle.std.specs.Prelude.{ℕ, pos, Bool, false, not, List, [], ◌∷◌, ◌++◌, map, filter, Option, None, Some, nat_eq}
 use Rattle.std.specs.Cmp.Lexicographic.{pointwise}
 use Rattle.std.specs.List.{flat_map}
-use Rattle.f77_ast.specs.declared.expr.Expr.{Expr}
+use Rattle.f77_ast.specs.declared.expr.Expr.{Expr, Int}
+use Rattle.f77_ast.specs.declared.specification.Bound.{Bound}
 use Rattle.f77_ast.specs.declared.expr.Expr.TheOpen.{Expr-F, Part-F, Ref-F}
 use Rattle.f77_ast.specs.declared.expr.Expr.TheOpen as layer
 use Rattle.f77_ast.specs.declared.expr.Expr.TheFolds.{fold-Expr, fold-Ref}
 use Rattle.f77_ast.specs.declared.expr.Ref.{Ref}
 use Rattle.f77_ast.specs.declared.specification.Declarator.{Declarator}
 use Rattle.f77_ast.specs.declared.stmt.Item.{Item, Plain}
+use Rattle.f77_ast.specs.declared.stmt.Item as item
 use Rattle.f77_ast.specs.declared.stmt.LoopControl.{LoopControl}
 use Rattle.f77_ast.specs.declared.stmt.Stmt.{Stmt, Declare, Assign, Do, Print, Program}
+use Rattle.f77_ast.specs.declared.stmt.Stmt as stmt
 use Rattle.f77_subset.specs.declared.mention.Mention.{Mention}
 use Rattle.f77_subset.specs.declared.mention.Standing.{Standing}
 use Rattle.f77_subset.specs.declared.mention.Standing.TheVariants.{Variable, Element, WholeItem}
@@ -26,7 +29,9 @@ expr_step (layer.Ref names) = names
 expr_step (layer.Unary op names) = names
 expr_step (layer.Binary op left right) = left ++ right
 expr_step (layer.Paren names) = names
-expr_step _ = []
+expr_step (layer.Int value) = []
+expr_step (layer.Truth value) = []
+expr_step (layer.Chars text) = []
 
 abbrev pub part_step : Part-F (List Mention) (Unit {0}) (List Mention) → Unit {0}
 part_step part = tt
@@ -51,7 +56,12 @@ mentions_in_reference = fold-Ref (List Mention) (Unit {0}) (List Mention) expr_s
 -- the name that an expression is, where it is nothing but a name
 abbrev pub alone_step : Expr-F (Option (List ℕ)) (Unit {0}) (Option (List ℕ)) → Option (List ℕ)
 alone_step (layer.Ref name) = name
-alone_step _ = None
+alone_step (layer.Int value) = None
+alone_step (layer.Truth value) = None
+alone_step (layer.Chars text) = None
+alone_step (layer.Unary op operand) = None
+alone_step (layer.Binary op left right) = None
+alone_step (layer.Paren inner) = None
 
 abbrev pub alone_part : Part-F (Option (List ℕ)) (Unit {0}) (Option (List ℕ)) → Unit {0}
 alone_part part = tt
@@ -78,7 +88,7 @@ as_item None names = names
 
 abbrev pub mentions_in_item : Item → List Mention
 mentions_in_item (Plain value) = as_item (expr_as_name value) (mentions_in value)
-mentions_in_item _ = []
+mentions_in_item (item.Implied' items rest control) = []
 
 -- the names in a parameter of a DO statement that may be left out
 abbrev pub mentions_in_increment : Option Expr → List Mention
@@ -95,17 +105,105 @@ abbrev pub mentioned_in : Stmt → List Mention
 mentioned_in (Assign target value) = mentions_in_reference target ++ mentions_in value
 mentioned_in (Do terminal control) = mentions_in_control control
 mentioned_in (Print items) = flat_map mentions_in_item items
-mentioned_in _ = []
+mentioned_in stmt.Continue = []
+mentioned_in stmt.Return = []
+mentioned_in stmt.Else = []
+mentioned_in stmt.EndIf = []
+mentioned_in stmt.End = []
+mentioned_in (stmt.Stop code) = []
+mentioned_in (stmt.Goto label) = []
+mentioned_in (stmt.ComputedGoto labels index) = []
+mentioned_in (stmt.ArithmeticIf value negative zeroth positive) = []
+mentioned_in (stmt.LogicalIf' condition pointer inner) = []
+mentioned_in (stmt.BlockIf condition) = []
+mentioned_in (stmt.ElseIf condition) = []
+mentioned_in (stmt.Call name args) = []
+mentioned_in (stmt.Read items) = []
+mentioned_in (stmt.Program name) = []
+mentioned_in (stmt.Subroutine name dummies) = []
+mentioned_in (stmt.Function typ name dummies) = []
+mentioned_in (stmt.Declare typ entities) = []
+mentioned_in (stmt.Dimension arrays) = []
+mentioned_in (stmt.Common groups) = []
+mentioned_in (stmt.Equivalence groups) = []
+mentioned_in (stmt.Parameter constants) = []
+mentioned_in (stmt.Implicit rules) = []
+mentioned_in (stmt.Save entries) = []
+mentioned_in (stmt.Init groups) = []
+
+-- a bound as it is found out: the lower one is 1 where none is written (ANSI X3.9-1978, section 5.1.1.1)
+abbrev pub lower_or_one : Option Expr → Expr
+lower_or_one None = Int (pos 1)
+lower_or_one (Some low) = low
+
+abbrev pub found_bound : Bound → Bound
+found_bound bound = record { low = Some (lower_or_one bound.low); high = bound.high }
+
+-- a declared name, with its bounds as they are found out
+abbrev pub found_out : Declarator → Declarator
+found_out d = record { name = d.name; bounds = map found_bound d.bounds }
 
 -- the names, with their bounds, that INTEGER declares
 abbrev pub declared_in : Stmt → List Declarator
-declared_in (Declare typ entities) = map (λ entity. entity.declarator) entities
-declared_in _ = []
+declared_in (Declare typ entities) = map (λ entity. found_out entity.declarator) entities
+declared_in (stmt.Assign target value) = []
+declared_in (stmt.Do terminal control) = []
+declared_in stmt.Continue = []
+declared_in stmt.Return = []
+declared_in stmt.Else = []
+declared_in stmt.EndIf = []
+declared_in stmt.End = []
+declared_in (stmt.Stop code) = []
+declared_in (stmt.Goto label) = []
+declared_in (stmt.ComputedGoto labels index) = []
+declared_in (stmt.ArithmeticIf value negative zeroth positive) = []
+declared_in (stmt.LogicalIf' condition pointer inner) = []
+declared_in (stmt.BlockIf condition) = []
+declared_in (stmt.ElseIf condition) = []
+declared_in (stmt.Call name args) = []
+declared_in (stmt.Print items) = []
+declared_in (stmt.Read items) = []
+declared_in (stmt.Program name) = []
+declared_in (stmt.Subroutine name dummies) = []
+declared_in (stmt.Function typ name dummies) = []
+declared_in (stmt.Dimension arrays) = []
+declared_in (stmt.Common groups) = []
+declared_in (stmt.Equivalence groups) = []
+declared_in (stmt.Parameter constants) = []
+declared_in (stmt.Implicit rules) = []
+declared_in (stmt.Save entries) = []
+declared_in (stmt.Init groups) = []
 
 -- whether a statement is the PROGRAM statement of this name
 abbrev pub is_program_of : (name : List ℕ) → Stmt → Bool
 is_program_of name (Program other) = pointwise nat_eq name other
-is_program_of name _ = false
+is_program_of name (stmt.Assign target value) = false
+is_program_of name (stmt.Do terminal control) = false
+is_program_of name stmt.Continue = false
+is_program_of name stmt.Return = false
+is_program_of name stmt.Else = false
+is_program_of name stmt.EndIf = false
+is_program_of name stmt.End = false
+is_program_of name (stmt.Stop code) = false
+is_program_of name (stmt.Goto label) = false
+is_program_of name (stmt.ComputedGoto labels index) = false
+is_program_of name (stmt.ArithmeticIf value negative zeroth positive) = false
+is_program_of name (stmt.LogicalIf' condition pointer inner) = false
+is_program_of name (stmt.BlockIf condition) = false
+is_program_of name (stmt.ElseIf condition) = false
+is_program_of name (stmt.Call called args) = false
+is_program_of name (stmt.Print items) = false
+is_program_of name (stmt.Read items) = false
+is_program_of name (stmt.Subroutine called dummies) = false
+is_program_of name (stmt.Function typ called dummies) = false
+is_program_of name (stmt.Declare typ entities) = false
+is_program_of name (stmt.Dimension arrays) = false
+is_program_of name (stmt.Common groups) = false
+is_program_of name (stmt.Equivalence groups) = false
+is_program_of name (stmt.Parameter constants) = false
+is_program_of name (stmt.Implicit rules) = false
+is_program_of name (stmt.Save entries) = false
+is_program_of name (stmt.Init groups) = false
 
 -- a name that isn't declared is no array
 abbrev pub undeclared : Mention → Declarator

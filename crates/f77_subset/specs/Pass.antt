@@ -3,8 +3,11 @@ use Rattle.std.specs.Prelude.{ℕ, ◌+◌, ◌||◌, not, List, [], ◌∷◌, 
 use Rattle.f77_ast.specs.declared.program.Listed.{Listed}
 use Rattle.f77_ast.specs.declared.program.Loop.{Loop}
 use Rattle.f77_ast.specs.declared.program.Unit.{Unit as ProgramUnit}
+use Rattle.f77_ast.specs.Refusal.{refusal_by}
 use Rattle.f77_ast.specs.declared.refusal.Refusal.{Refusal}
+use Rattle.f77_ast.specs.declared.rule.Rule.TheVariants.{LeftOut}
 use Rattle.f77_ast.specs.declared.stmt.Stmt.{Stmt, Do}
+use Rattle.f77_ast.specs.declared.stmt.Stmt as stmt
 use Rattle.f77_subset.specs.declared.pass.Pass.{Pass}
 use Rattle.f77_subset.specs.declared.pass.LoopsSoFar.{LoopsSoFar}
 use Rattle.f77_subset.specs.declared.table.Table.{Table}
@@ -24,7 +27,33 @@ with_next (Some loop) running variable = record { ranges = with_loop running.ran
 -- the DO variables behind a statement
 abbrev pub followed : List Loop → LoopsSoFar → Stmt → LoopsSoFar
 followed loops running (Do terminal control) = with_next (slice_get loops running.loops) running control.variable
-followed loops running _ = running
+followed loops running (stmt.Assign target value) = running
+followed loops running stmt.Continue = running
+followed loops running stmt.Return = running
+followed loops running stmt.Else = running
+followed loops running stmt.EndIf = running
+followed loops running stmt.End = running
+followed loops running (stmt.Stop code) = running
+followed loops running (stmt.Goto label) = running
+followed loops running (stmt.ComputedGoto labels index) = running
+followed loops running (stmt.ArithmeticIf value negative zeroth positive) = running
+followed loops running (stmt.LogicalIf' condition pointer inner) = running
+followed loops running (stmt.BlockIf condition) = running
+followed loops running (stmt.ElseIf condition) = running
+followed loops running (stmt.Call name args) = running
+followed loops running (stmt.Print items) = running
+followed loops running (stmt.Read items) = running
+followed loops running (stmt.Program name) = running
+followed loops running (stmt.Subroutine name dummies) = running
+followed loops running (stmt.Function typ name dummies) = running
+followed loops running (stmt.Declare typ entities) = running
+followed loops running (stmt.Dimension arrays) = running
+followed loops running (stmt.Common groups) = running
+followed loops running (stmt.Equivalence groups) = running
+followed loops running (stmt.Parameter constants) = running
+followed loops running (stmt.Implicit rules) = running
+followed loops running (stmt.Save entries) = running
+followed loops running (stmt.Init groups) = running
 
 -- a statement more, where there is a table
 abbrev pub with_table : List Loop → Pass → Stmt → Option Table → Option Pass
@@ -37,7 +66,7 @@ taken loops p s = if not (is_built s) || breaks p.running.ranges (p.statements +
 
 -- goes on with the pass, or refuses a line
 abbrev pub on_pass : Option Pass → (line : ℕ) → (Pass → Result Pass Refusal) → Result Pass Refusal
-on_pass None line go = Err (record { line = line; code = 21 })
+on_pass None line go = Err (refusal_by line LeftOut)
 on_pass (Some p) line go = go p
 
 -- some statements

@@ -5,6 +5,7 @@ use Rattle.std.specs.Map.{lookup}
 use Rattle.indexmap.specs.IndexMap.{insert_entry}
 use Rattle.f77_ast.specs.declared.expr.Ref.{out-Ref}
 use Rattle.f77_ast.specs.declared.stmt.Stmt.{Stmt, Assign, Do}
+use Rattle.f77_ast.specs.declared.stmt.Stmt as stmt
 
 -- names, each with the last statement of the file that its loops reach
 abbrev pub Ends : Type 0
@@ -32,4 +33,29 @@ with_loop ends name last = insert_entry (pointwise nat_eq) ends name (greatest (
 abbrev pub breaks : Ends → (number : ℕ) → Stmt → Bool
 breaks ends number (Assign target value) = reaches ends (out-Ref target).name number
 breaks ends number (Do terminal control) = reaches ends control.variable number
-breaks ends number _ = false
+breaks ends number stmt.Continue = false
+breaks ends number stmt.Return = false
+breaks ends number stmt.Else = false
+breaks ends number stmt.EndIf = false
+breaks ends number stmt.End = false
+breaks ends number (stmt.Stop code) = false
+breaks ends number (stmt.Goto label) = false
+breaks ends number (stmt.ComputedGoto labels index) = false
+breaks ends number (stmt.ArithmeticIf value negative zeroth positive) = false
+breaks ends number (stmt.LogicalIf' condition pointer inner) = false
+breaks ends number (stmt.BlockIf condition) = false
+breaks ends number (stmt.ElseIf condition) = false
+breaks ends number (stmt.Call name args) = false
+breaks ends number (stmt.Print items) = false
+breaks ends number (stmt.Read items) = false
+breaks ends number (stmt.Program name) = false
+breaks ends number (stmt.Subroutine name dummies) = false
+breaks ends number (stmt.Function typ name dummies) = false
+breaks ends number (stmt.Declare typ entities) = false
+breaks ends number (stmt.Dimension arrays) = false
+breaks ends number (stmt.Common groups) = false
+breaks ends number (stmt.Equivalence groups) = false
+breaks ends number (stmt.Parameter constants) = false
+breaks ends number (stmt.Implicit rules) = false
+breaks ends number (stmt.Save entries) = false
+breaks ends number (stmt.Init groups) = false

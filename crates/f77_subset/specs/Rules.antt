@@ -4,21 +4,19 @@
 use Rattle.std.specs.Prelude.{ℕ, Bool, true, false, not, ◌&&◌, ◌||◌, nat_le, nat_eq, List, [], ◌∷◌, find, Option, None, Some}
 use Rattle.std.specs.Cmp.Lexicographic.{pointwise}
 use Rattle.std.specs.List.{list_all, list_any, flat_map}
+use Rattle.f77_ast.specs.Limits.{most_storage_units}
 use Rattle.f77_ast.specs.declared.expr.Ref.{out-Ref}
 use Rattle.f77_ast.specs.declared.program.Loop.{Loop}
 use Rattle.f77_ast.specs.declared.specification.Bound.{Bound}
 use Rattle.f77_ast.specs.declared.specification.Declarator.{Declarator}
 use Rattle.f77_ast.specs.declared.stmt.Stmt.{Stmt, Assign, Do}
+use Rattle.f77_ast.specs.declared.stmt.Stmt as stmt
 use Rattle.f77_structure.specs.Storage.{storage_units_by}
 use Rattle.f77_subset.specs.declared.mention.Mention.{Mention}
 use Rattle.f77_subset.specs.declared.mention.Standing.{Standing}
 use Rattle.f77_subset.specs.declared.mention.Standing.TheVariants.{Variable, Element, WholeItem}
 use Rattle.f77_subset.specs.Names.{mentioned_in, declared_in, is_program_of, is_of, names_of, declarations}
 use Rattle.f77_subset.specs.Storage.{total_units}
-
--- the greatest number of storage units
-abbrev pub storage_limit : ℕ
-storage_limit = 1000000
 
 -- whether a name begins with one of I to N, and so is INTEGER without a declaration (ANSI X3.9-1978, section 4.1.2)
 abbrev pub begins_integer : List ℕ → Bool
@@ -76,12 +74,38 @@ names_keep before s =
 
 -- whether there are no more storage units than there may be
 abbrev pub storage_keeps : List Stmt → Bool
-storage_keeps statements = nat_le (total_units (names_of statements)) storage_limit
+storage_keeps statements = nat_le (total_units (names_of statements)) most_storage_units
 
 -- the variables of the DO statements among some statements, in order
 abbrev pub do_variable : Stmt → List (List ℕ)
 do_variable (Do terminal control) = control.variable ∷ []
-do_variable _ = []
+do_variable (stmt.Assign target value) = []
+do_variable stmt.Continue = []
+do_variable stmt.Return = []
+do_variable stmt.Else = []
+do_variable stmt.EndIf = []
+do_variable stmt.End = []
+do_variable (stmt.Stop code) = []
+do_variable (stmt.Goto label) = []
+do_variable (stmt.ComputedGoto labels index) = []
+do_variable (stmt.ArithmeticIf value negative zeroth positive) = []
+do_variable (stmt.LogicalIf' condition pointer inner) = []
+do_variable (stmt.BlockIf condition) = []
+do_variable (stmt.ElseIf condition) = []
+do_variable (stmt.Call name args) = []
+do_variable (stmt.Print items) = []
+do_variable (stmt.Read items) = []
+do_variable (stmt.Program name) = []
+do_variable (stmt.Subroutine name dummies) = []
+do_variable (stmt.Function typ name dummies) = []
+do_variable (stmt.Declare typ entities) = []
+do_variable (stmt.Dimension arrays) = []
+do_variable (stmt.Common groups) = []
+do_variable (stmt.Equivalence groups) = []
+do_variable (stmt.Parameter constants) = []
+do_variable (stmt.Implicit rules) = []
+do_variable (stmt.Save entries) = []
+do_variable (stmt.Init groups) = []
 
 abbrev pub do_variables : List Stmt → List (List ℕ)
 do_variables statements = flat_map do_variable statements
@@ -97,7 +121,32 @@ is_active name number (variable ∷ variables) (loop ∷ loops) =
 abbrev pub assigned_in : Stmt → List (List ℕ)
 assigned_in (Assign target value) = (out-Ref target).name ∷ []
 assigned_in (Do terminal control) = control.variable ∷ []
-assigned_in _ = []
+assigned_in stmt.Continue = []
+assigned_in stmt.Return = []
+assigned_in stmt.Else = []
+assigned_in stmt.EndIf = []
+assigned_in stmt.End = []
+assigned_in (stmt.Stop code) = []
+assigned_in (stmt.Goto label) = []
+assigned_in (stmt.ComputedGoto labels index) = []
+assigned_in (stmt.ArithmeticIf value negative zeroth positive) = []
+assigned_in (stmt.LogicalIf' condition pointer inner) = []
+assigned_in (stmt.BlockIf condition) = []
+assigned_in (stmt.ElseIf condition) = []
+assigned_in (stmt.Call name args) = []
+assigned_in (stmt.Print items) = []
+assigned_in (stmt.Read items) = []
+assigned_in (stmt.Program name) = []
+assigned_in (stmt.Subroutine name dummies) = []
+assigned_in (stmt.Function typ name dummies) = []
+assigned_in (stmt.Declare typ entities) = []
+assigned_in (stmt.Dimension arrays) = []
+assigned_in (stmt.Common groups) = []
+assigned_in (stmt.Equivalence groups) = []
+assigned_in (stmt.Parameter constants) = []
+assigned_in (stmt.Implicit rules) = []
+assigned_in (stmt.Save entries) = []
+assigned_in (stmt.Init groups) = []
 
 -- whether this statement of the file, behind others, assigns no variable of a DO statement in whose range it stands; the
 -- loops of the file stand in the order of its DO statements

@@ -5,7 +5,9 @@ use Rattle.f77_ast.specs.declared.program.Layout.{Layout}
 use Rattle.f77_ast.specs.declared.program.Listed.{Listed}
 use Rattle.f77_ast.specs.declared.program.Loop.{Loop}
 use Rattle.f77_ast.specs.declared.program.Unit.{Unit as ProgramUnit}
+use Rattle.f77_ast.specs.Refusal.{refusal_by}
 use Rattle.f77_ast.specs.declared.refusal.Refusal.{Refusal}
+use Rattle.f77_ast.specs.declared.rule.Rule.TheVariants.{LeftOut}
 use Rattle.f77_ast.specs.declared.stmt.Stmt.{Stmt}
 use Rattle.f77_subset.specs.Built.{is_built}
 use Rattle.f77_subset.specs.Names.{names_of}
@@ -17,11 +19,11 @@ abbrev pub keeps : List Loop → (before : List Stmt) → Stmt → Bool
 keeps loops before s =
     is_built s && names_keep before s && storage_keeps (before ++ s ∷ []) && variables_keep loops before (length before + 1) s
 
--- the first of some statements that isn't built or breaks a rule behind those before it: code 21 at its line
+-- the first of some statements that isn't built or breaks a rule behind those before it: at its line, as left out
 abbrev pub first_break : List Loop → (before : List Stmt) → List Listed → Option Refusal
 first_break loops before [] = None
 first_break loops before (one ∷ rest) =
-    if keeps loops before one.stmt then first_break loops (before ++ one.stmt ∷ []) rest else Some (record { line = one.card.line; code = 21 })
+    if keeps loops before one.stmt then first_break loops (before ++ one.stmt ∷ []) rest else Some (refusal_by one.card.line LeftOut)
 
 -- the statements of a file, from its units
 abbrev pub listing_of : List ProgramUnit → List Listed

@@ -5,34 +5,10 @@ ghost use Rattle.std.specs.Option.{option_map};
 ghost use Rattle.f77_subset.specs.Built as spec;
 
 use crate::built_declarations::{are_built, is_integer_type};
-use f77_ast::expr::{Expr, Op, Ref};
+use f77_ast::expr::{Expr, Ref};
 use f77_ast::stmt::{Item, LoopControl, Stmt};
+use f77_structure::operators::{is_arithmetic, is_sign};
 use sqlite_items::Items;
-
-/// Whether an operator is `+` or `-` before its operand.
-fn is_sign(operator: Op) -> bool
-    ensures { result ≡ spec.is_sign operator }
-{
-    match operator {
-        Op::Plus => true,
-        Op::Neg => true,
-        _ => false,
-    }
-}
-
-/// Whether an operator is `+`, `-`, `*`, `/` or `**` between two operands.
-fn is_arithmetic(operator: Op) -> bool
-    ensures { result ≡ spec.is_arithmetic operator }
-{
-    match operator {
-        Op::Add => true,
-        Op::Sub => true,
-        Op::Mul => true,
-        Op::Div => true,
-        Op::Pow => true,
-        _ => false,
-    }
-}
 
 /// Whether an expression is built: numbers, references with one subscript at most, arithmetic operators and parentheses.
 #[cycle(built)]
@@ -68,8 +44,9 @@ fn subscript_is_built(args: &Option<Items<Expr>>) -> bool
     match args {
         None => true,
         Some(subscripts) => match subscripts.as_slice() {
+            [] => false,
             [subscript] => expr_is_built(subscript),
-            _ => false,
+            [_, _, ..] => false,
         },
     }
 }
@@ -123,6 +100,26 @@ pub fn is_built(stmt: &Stmt) -> bool
         Stmt::Print(items) => items_are_built(items.as_slice()),
         Stmt::Program(_name) => true,
         Stmt::Declare { typ, entities } => is_integer_type(typ) && are_built(entities.as_slice()),
-        _ => false,
+        Stmt::Return => false,
+        Stmt::Else => false,
+        Stmt::EndIf => false,
+        Stmt::Stop(_) => false,
+        Stmt::Goto(_) => false,
+        Stmt::ComputedGoto { .. } => false,
+        Stmt::ArithmeticIf { .. } => false,
+        Stmt::LogicalIf { .. } => false,
+        Stmt::BlockIf(_) => false,
+        Stmt::ElseIf(_) => false,
+        Stmt::Call { .. } => false,
+        Stmt::Read(_) => false,
+        Stmt::Subroutine { .. } => false,
+        Stmt::Function { .. } => false,
+        Stmt::Dimension(_) => false,
+        Stmt::Common(_) => false,
+        Stmt::Equivalence(_) => false,
+        Stmt::Parameter(_) => false,
+        Stmt::Implicit(_) => false,
+        Stmt::Save(_) => false,
+        Stmt::Init(_) => false,
     }
 }

@@ -1,18 +1,33 @@
 //! Which declarations are built by now (ANSI X3.9-1978, section 8.4.1).
-ghost use Rattle.std.specs.Prelude.{◌≡◌};
+ghost use Rattle.std.specs.Prelude.{◌≡◌, Some};
 ghost use Rattle.std.specs.List.{list_all};
 ghost use Rattle.f77_subset.specs.Built as spec;
 
 use f77_ast::expr::Expr;
 use f77_ast::specification::{Bound, TypeSpec, TypedDeclarator};
 
+/// Whether an expression is digits.
+fn is_digits(expr: &Expr) -> bool
+    ensures { result ≡ spec.is_upper (Some expr.now) }
+{
+    match expr {
+        Expr::Int(_value) => true,
+        Expr::Truth(_value) => false,
+        Expr::Chars(_text) => false,
+        Expr::Ref(_found) => false,
+        Expr::Unary(_operator, _operand) => false,
+        Expr::Binary(_operator, _left, _right) => false,
+        Expr::Paren(_inner) => false,
+    }
+}
+
 /// Whether an upper bound is digits.
 fn is_upper(bound: &Option<Expr>) -> bool
     ensures { result ≡ spec.is_upper bound.now }
 {
     match bound {
-        Some(Expr::Int(_value)) => true,
-        _ => false,
+        None => false,
+        Some(expr) => is_digits(expr),
     }
 }
 
@@ -30,7 +45,7 @@ fn bounds_are_built(bounds: &[Bound]) -> bool
     match bounds {
         [] => true,
         [bound] => bound_is_built(bound),
-        _ => false,
+        [_, _, ..] => false,
     }
 }
 
@@ -54,6 +69,7 @@ pub fn is_integer_type(typ: &TypeSpec) -> bool
 {
     match typ {
         TypeSpec::Integer => true,
-        _ => false,
+        TypeSpec::Logical => false,
+        TypeSpec::Character(_) => false,
     }
 }

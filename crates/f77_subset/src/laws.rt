@@ -1,5 +1,5 @@
 //! Laws of the files that are built by now: functions with nothing to do.
-ghost use Rattle.f77_subset.specs.Laws.{LayoutsAreStorage, LayoutsAreLaidOut, StatementsAreBuilt, StatementsResolve};
+ghost use Rattle.f77_subset.specs.Laws.{LayoutsAreStorage, LayoutsAreLaidOut, StatementsAreBuilt, StatementsHaveMeaning};
 
 /// A law: where a file is built, each name lies in storage, which has an opening value for each unit.
 pub fn law_of_storage()
@@ -17,7 +17,7 @@ pub fn law_of_statements()
     ensures { StatementsAreBuilt }
 {}
 
-/// A law: where a file is built, all references of its statements name entities of its layout.
-pub fn law_of_references()
-    ensures { StatementsResolve }
+/// A law: where a file is built, each of its statements has a meaning in its layout.
+pub fn law_of_meanings()
+    ensures { StatementsHaveMeaning }
 {}

@@ -88,8 +88,13 @@ fn expr_as_name(value: &Expr) -> Option<Name>
     ensures { result ≡ spec.expr_as_name value.now }
 {
     match value {
+        Expr::Int(_value) => None,
+        Expr::Truth(_value) => None,
+        Expr::Chars(_text) => None,
         Expr::Ref(found) => ref_as_name(found),
-        _ => None,
+        Expr::Unary(_operator, _operand) => None,
+        Expr::Binary(_operator, _left, _right) => None,
+        Expr::Paren(_inner) => None,
     }
 }
 
@@ -166,7 +171,31 @@ pub fn mentioned_in(alloc: Global, stmt: &Stmt) -> Result<Mentions, NoMemory>
         Stmt::Assign { target, value } => mentions_in_assignment(target, value, &mut names)?,
         Stmt::Do { control, .. } => mentions_in_control(control, &mut names)?,
         Stmt::Print(items) => mentions_in_items(items.as_slice(), &mut names)?,
-        _ => (),
+        Stmt::Continue => (),
+        Stmt::Return => (),
+        Stmt::Else => (),
+        Stmt::EndIf => (),
+        Stmt::End => (),
+        Stmt::Stop(_) => (),
+        Stmt::Goto(_) => (),
+        Stmt::ComputedGoto { .. } => (),
+        Stmt::ArithmeticIf { .. } => (),
+        Stmt::LogicalIf { .. } => (),
+        Stmt::BlockIf(_) => (),
+        Stmt::ElseIf(_) => (),
+        Stmt::Call { .. } => (),
+        Stmt::Read(_) => (),
+        Stmt::Program(_) => (),
+        Stmt::Subroutine { .. } => (),
+        Stmt::Function { .. } => (),
+        Stmt::Declare { .. } => (),
+        Stmt::Dimension(_) => (),
+        Stmt::Common(_) => (),
+        Stmt::Equivalence(_) => (),
+        Stmt::Parameter(_) => (),
+        Stmt::Implicit(_) => (),
+        Stmt::Save(_) => (),
+        Stmt::Init(_) => (),
     }
     Ok(names)
 }

@@ -1,5 +1,6 @@
 //! One pass over the statements of a file: the table of their names, and their DO variables.
 ghost use Rattle.std.specs.Prelude.{◌≡◌, ◌≤◌, ◌<◌, ◌+◌, ◌^◌, length, Ok, Err, Some, None, OnOk, IsErrOf, slice_get};
+ghost use Rattle.f77_ast.specs.Refusal.{refusal_by};
 ghost use Rattle.f77_ast.specs.declared.refusal.Refusal.{Refusal};
 ghost use Rattle.f77_structure.specs.Units.{statement_count};
 ghost use Rattle.f77_subset.specs.Pass as spec;
@@ -11,6 +12,7 @@ use crate::table::Table;
 use f77_ast::name::Name;
 use f77_ast::program::{Listed, Loop, Unit};
 use f77_ast::refusal::{FrontError, Refusal};
+use f77_ast::rule::Rule;
 use f77_ast::stmt::Stmt;
 use hyb_base::no_memory::NoMemory;
 use std::alloc::Global;
@@ -45,7 +47,33 @@ impl LoopsSoFar {
     {
         match stmt {
             Stmt::Do { control, .. } => self.begin(loops, &control.variable),
-            _ => Ok(()),
+            Stmt::Assign { .. } => Ok(()),
+            Stmt::Continue => Ok(()),
+            Stmt::Return => Ok(()),
+            Stmt::Else => Ok(()),
+            Stmt::EndIf => Ok(()),
+            Stmt::End => Ok(()),
+            Stmt::Stop(_) => Ok(()),
+            Stmt::Goto(_) => Ok(()),
+            Stmt::ComputedGoto { .. } => Ok(()),
+            Stmt::ArithmeticIf { .. } => Ok(()),
+            Stmt::LogicalIf { .. } => Ok(()),
+            Stmt::BlockIf(_) => Ok(()),
+            Stmt::ElseIf(_) => Ok(()),
+            Stmt::Call { .. } => Ok(()),
+            Stmt::Print(_) => Ok(()),
+            Stmt::Read(_) => Ok(()),
+            Stmt::Program(_) => Ok(()),
+            Stmt::Subroutine { .. } => Ok(()),
+            Stmt::Function { .. } => Ok(()),
+            Stmt::Declare { .. } => Ok(()),
+            Stmt::Dimension(_) => Ok(()),
+            Stmt::Common(_) => Ok(()),
+            Stmt::Equivalence(_) => Ok(()),
+            Stmt::Parameter(_) => Ok(()),
+            Stmt::Implicit(_) => Ok(()),
+            Stmt::Save(_) => Ok(()),
+            Stmt::Init(_) => Ok(()),
         }
     }
 }
@@ -92,19 +120,19 @@ impl Pass {
         Ok(())
     }
 
-    /// Takes the next statement: refused with code 21 at its line.
+    /// Takes the next statement: refused as left out, at its line.
     fn take_listed(&mut self, alloc: Global, loops: &[Loop], one: &Listed) -> Result<(), FrontError>
         requires { self.old.statements + 1 < 2 ^ 32 }
         ensures taken { OnOk result (spec.taken loops.now self.old one.now.stmt ≡ Some self.new) }
-        ensures line { (refusal : Refusal) → IsErrOf result (FrontError.Refused refusal) → refusal ≡ record { line = one.now.card.line; code = 21 } }
+        ensures line { (refusal : Refusal) → IsErrOf result (FrontError.Refused refusal) → refusal ≡ refusal_by one.now.card.line Rule.LeftOut }
         ensures refused { (refusal : Refusal) → IsErrOf result (FrontError.Refused refusal) → spec.taken loops.now self.old one.now.stmt ≡ None }
     {
         match self.take(alloc, loops, &one.stmt) {
             Ok(()) => Ok(()),
-            Err(Broken::Rule) => Err(FrontError::Refused(Refusal {
-                line: one.card.line,
-                code: 21,
-            })),
+            Err(Broken::Rule) => Err(FrontError::Refused(Refusal::new(
+                one.card.line,
+                Rule::LeftOut,
+            ))),
             Err(Broken::NoMemory) => Err(FrontError::NoMemory),
         }
     }

@@ -14,7 +14,7 @@ use std::alloc::Global;
 /// # Errors
 ///
 /// `Refused` exactly where a statement isn't built by now or breaks a rule on names, storage or DO variables: at the line
-/// of the first such statement, code 21. `NoMemory` where no memory was to be had.
+/// of the first such statement, as left out. `NoMemory` where no memory was to be had.
 pub fn subset(alloc: Global, units: &Units, loops: &Loops) -> Result<Layout, FrontError>
     requires counted { statement_count units.now + 1 < 2 ^ 32 }
     ensures accepted { IfOk result (λ layout. subset_of loops.now units.now ≡ Ok layout) }

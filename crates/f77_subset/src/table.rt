@@ -4,20 +4,22 @@ ghost use Rattle.std.specs.List.{list_all};
 ghost use Rattle.f77_ast.specs.Entity.{entity_in};
 ghost use Rattle.f77_structure.specs.Storage.{storage_units_by};
 ghost use Rattle.f77_subset.specs.Built.{bounds_are_built, entity_is_built, is_built};
-ghost use Rattle.f77_subset.specs.Names.{mentioned_in};
-ghost use Rattle.f77_subset.specs.Rules.{begins_integer, are_bounds, storage_limit};
+ghost use Rattle.f77_subset.specs.Names.{mentioned_in, found_out};
+ghost use Rattle.f77_ast.specs.Limits.{most_storage_units};
+ghost use Rattle.f77_subset.specs.Rules.{begins_integer, are_bounds};
 ghost use Rattle.f77_subset.specs.Rules as rule;
 ghost use Rattle.f77_subset.specs.Table as spec;
 
 use crate::broken::Broken;
 use crate::mention::{Mention, Standing};
 use crate::mentions::mentioned_in;
-use crate::units::{MOST_STORAGE_UNITS, copy_of, storage_units_of};
+use crate::units::{found_bounds, storage_units_of};
 use f77_ast::entities::Entities;
 use f77_ast::expr::Kind;
+use f77_ast::limits::MOST_STORAGE_UNITS;
 use f77_ast::name::Name;
-use f77_ast::program::{Entity, Layout, Place, Region, Regions};
-use f77_ast::specification::{Bound, Declarator, TypedDeclarator};
+use f77_ast::program::{Bounds, Entity, Layout, Place, Region, Regions};
+use f77_ast::specification::{Declarator, TypedDeclarator};
 use f77_ast::stmt::Stmt;
 use hyb_base::list::List;
 use hyb_base::no_memory::NoMemory;
@@ -80,20 +82,12 @@ impl Table {
     }
 
     /// Places a new name of `units` cells after the others.
-    fn push(
-        &mut self,
-        alloc: Global,
-        name: &Name,
-        bounds: &[Bound],
-        units: u32,
-    ) -> Result<(), NoMemory>
+    fn push(&mut self, name: &Name, bounds: Bounds, units: u32) -> Result<(), NoMemory>
         requires absent { entity_in self.old.entities 0 name.now ≡ None }
-        requires built { bounds_are_built bounds.now ≡ true }
-        requires units { units ≡ storage_units_by bounds.now }
-        requires within { self.old.total + units ≤ storage_limit }
-        ensures { OnOk result (self.new ≡ spec.behind self.old (record { name = name.now; bounds = bounds.now })) }
+        requires units { units ≡ storage_units_by bounds }
+        requires within { self.old.total + units ≤ most_storage_units }
+        ensures { OnOk result (self.new ≡ spec.behind self.old (record { name = name.now; bounds = bounds })) }
     {
-        let bounds = copy_of(alloc, bounds)?;
         self.entities.push(Entity {
             unit: 0,
             name: name.copy(),
@@ -111,18 +105,17 @@ impl Table {
     }
 
     /// Gives a new name its units after the others, within the limit.
-    fn place(&mut self, alloc: Global, name: &Name, bounds: &[Bound]) -> Result<(), Broken>
+    fn place(&mut self, name: &Name, bounds: Bounds) -> Result<(), Broken>
         requires absent { entity_in self.old.entities 0 name.now ≡ None }
-        requires built { bounds_are_built bounds.now ≡ true }
-        ensures { spec.Updates (spec.placed self.old (record { name = name.now; bounds = bounds.now })) result self.new }
+        ensures { spec.Updates (spec.placed self.old (record { name = name.now; bounds = bounds })) result self.new }
     {
-        match storage_units_of(bounds) {
+        match storage_units_of(bounds.as_slice()) {
             None => Err(Broken::Rule),
             Some(units) => {
                 if self.total > MOST_STORAGE_UNITS - units {
                     return Err(Broken::Rule);
                 }
-                self.push(alloc, name, bounds, units)?;
+                self.push(name, bounds, units)?;
                 Ok(())
             }
         }
@@ -131,12 +124,13 @@ impl Table {
     /// Takes a declaration.
     fn declare(&mut self, alloc: Global, declarator: &Declarator) -> Result<(), Broken>
         requires { bounds_are_built declarator.now.bounds ≡ true }
-        ensures { spec.Updates (spec.declared_by self.old declarator.now) result self.new }
+        ensures { spec.Updates (spec.declared_by self.old (found_out declarator.now)) result self.new }
     {
         if self.entities.find(0, &declarator.name).is_some() || self.is_program(&declarator.name) {
             return Err(Broken::Rule);
         }
-        self.place(alloc, &declarator.name, declarator.bounds.as_slice())
+        let bounds = found_bounds(alloc, declarator.bounds.as_slice())?;
+        self.place(&declarator.name, bounds)
     }
 
     /// Takes the declarations of an INTEGER statement.
@@ -181,7 +175,7 @@ impl Table {
         if self.entities.find(0, &mention.name).is_some() {
             return Ok(());
         }
-        self.place(alloc, &mention.name, &[])
+        self.place(&mention.name, Bounds::new(alloc))
     }
 
     /// Takes names of another statement.
@@ -216,7 +210,32 @@ impl Table {
                 self.programs.push(name.copy())?;
                 Ok(())
             }
-            _ => self.mention_all(alloc, stmt),
+            Stmt::Assign { .. } => self.mention_all(alloc, stmt),
+            Stmt::Do { .. } => self.mention_all(alloc, stmt),
+            Stmt::Continue => self.mention_all(alloc, stmt),
+            Stmt::Return => self.mention_all(alloc, stmt),
+            Stmt::Else => self.mention_all(alloc, stmt),
+            Stmt::EndIf => self.mention_all(alloc, stmt),
+            Stmt::End => self.mention_all(alloc, stmt),
+            Stmt::Stop(_) => self.mention_all(alloc, stmt),
+            Stmt::Goto(_) => self.mention_all(alloc, stmt),
+            Stmt::ComputedGoto { .. } => self.mention_all(alloc, stmt),
+            Stmt::ArithmeticIf { .. } => self.mention_all(alloc, stmt),
+            Stmt::LogicalIf { .. } => self.mention_all(alloc, stmt),
+            Stmt::BlockIf(_) => self.mention_all(alloc, stmt),
+            Stmt::ElseIf(_) => self.mention_all(alloc, stmt),
+            Stmt::Call { .. } => self.mention_all(alloc, stmt),
+            Stmt::Print(_) => self.mention_all(alloc, stmt),
+            Stmt::Read(_) => self.mention_all(alloc, stmt),
+            Stmt::Subroutine { .. } => self.mention_all(alloc, stmt),
+            Stmt::Function { .. } => self.mention_all(alloc, stmt),
+            Stmt::Dimension(_) => self.mention_all(alloc, stmt),
+            Stmt::Common(_) => self.mention_all(alloc, stmt),
+            Stmt::Equivalence(_) => self.mention_all(alloc, stmt),
+            Stmt::Parameter(_) => self.mention_all(alloc, stmt),
+            Stmt::Implicit(_) => self.mention_all(alloc, stmt),
+            Stmt::Save(_) => self.mention_all(alloc, stmt),
+            Stmt::Init(_) => self.mention_all(alloc, stmt),
         }
     }
 

@@ -1,44 +1,37 @@
 //! The storage units of a name (ANSI X3.9-1978, sections 2.13 and 5.2.5).
-ghost use Rattle.std.specs.Prelude.{◌≡◌, IfOk, true, [], ◌∷◌};
-ghost use Rattle.f77_structure.specs.Storage.{storage_units_by, extent_of};
+ghost use Rattle.std.specs.Prelude.{◌≡◌, IfOk, None, true, [], ◌∷◌, map};
+ghost use Rattle.f77_structure.specs.Storage.{storage_units_by, extent_by};
 ghost use Rattle.f77_subset.specs.Built.{bounds_are_built};
+ghost use Rattle.f77_subset.specs.Names.{found_bound};
 ghost use Rattle.f77_subset.specs.Units as spec;
 
 use f77_ast::expr::Expr;
+use f77_ast::limits::MOST_STORAGE_UNITS;
 use f77_ast::program::Bounds;
 use f77_ast::specification::Bound;
+use f77_structure::storage::{Span, span_of};
 use hyb_base::no_memory::NoMemory;
 use std::alloc::Global;
 
-/// The upper bound of a dimension, where it is digits.
-fn last_of(bound: &Option<Expr>) -> Option<i64>
-    ensures { result ≡ spec.last_of bound.now }
+/// A number of storage units, where it is from one to as many as there may be.
+fn within(units: u128) -> Option<u32>
+    ensures { result ≡ spec.within units }
 {
-    match bound {
-        Some(Expr::Int(last)) => Some(*last),
-        _ => None,
+    if units >= 1 && units <= u128::from(MOST_STORAGE_UNITS) {
+        Some(units as u32)
+    } else {
+        None
     }
-}
-
-/// The most storage units of a file.
-pub const MOST_STORAGE_UNITS: u32 = 1_000_000;
-
-/// The number of elements, where there are from one to as many as there may be storage units.
-fn counted(last: Option<i64>) -> Option<u32>
-    ensures { result ≡ spec.within (spec.elements last) }
-{
-    let last = last?;
-    if last < 1 || last > i64::from(MOST_STORAGE_UNITS) {
-        return None;
-    }
-    u32::try_from(last).ok()
 }
 
 /// The elements of a dimension: none where there is none, or are more than there may be storage units.
-fn extent_of(bound: &Bound) -> Option<u32>
-    ensures { result ≡ spec.within (extent_of bound.now) }
+fn extent(span: Option<Span>) -> Option<u32>
+    ensures { result ≡ spec.within (extent_by span) }
 {
-    counted(last_of(&bound.high))
+    match span {
+        None => None,
+        Some(span) => within(span.extent()),
+    }
 }
 
 /// The storage units of a name with such bounds: none where it has no element, or more than there may be.
@@ -47,31 +40,41 @@ pub fn storage_units_of(bounds: &[Bound]) -> Option<u32>
 {
     match bounds {
         [] => Some(1),
-        [bound] => extent_of(bound),
+        [bound] => extent(span_of(bound)),
+        [_, _, ..] => None,
+    }
+}
+
+/// The number that an upper bound is, which is digits.
+fn digits(bound: &Option<Expr>) -> Option<Expr>
+    requires { bounds_are_built (record { low = None; high = bound.now } ∷ []) ≡ true }
+    ensures { result ≡ bound.now }
+{
+    match bound {
+        Some(Expr::Int(number)) => Some(Expr::Int(*number)),
         _ => None,
     }
 }
 
-/// A copy of a dimension with digits as its upper bound.
-fn copy_of_bound(bound: &Bound) -> Bound
+/// A dimension with digits as its upper bound, as it is found out: its lower bound is 1.
+fn found_bound(bound: &Bound) -> Bound
     requires { bounds_are_built (bound.now ∷ []) ≡ true }
-    ensures { result ≡ bound.now }
+    ensures { result ≡ found_bound bound.now }
 {
-    let high = match last_of(&bound.high) {
-        None => None,
-        Some(last) => Some(Expr::Int(last)),
-    };
-    Bound { low: None, high }
+    Bound {
+        low: Some(Expr::Int(1)),
+        high: digits(&bound.high),
+    }
 }
 
-/// A copy of bounds that are built.
-pub fn copy_of(alloc: Global, bounds: &[Bound]) -> Result<Bounds, NoMemory>
+/// Bounds that are built, as they are found out.
+pub fn found_bounds(alloc: Global, bounds: &[Bound]) -> Result<Bounds, NoMemory>
     requires { bounds_are_built bounds.now ≡ true }
-    ensures { IfOk result (λ copy. copy ≡ bounds.now) }
+    ensures { IfOk result (λ found. found ≡ map found_bound bounds.now) }
 {
-    let mut copy = Bounds::new(alloc);
+    let mut found = Bounds::new(alloc);
     if let [bound] = bounds {
-        copy.push(copy_of_bound(bound))?;
+        found.push(found_bound(bound))?;
     }
-    Ok(copy)
+    Ok(found)
 }

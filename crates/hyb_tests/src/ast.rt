@@ -5,6 +5,7 @@ use f77_ast::fault::Fault;
 use f77_ast::name::Name;
 use f77_ast::program::{Layout, Loop, Loops, Program, Regions, Units};
 use f77_ast::refusal::{FrontError, Refusal};
+use f77_ast::rule::Rule;
 use hyb_base::no_memory::NoMemory;
 use hyb_base::nums::Nums;
 use std::alloc::Global;
@@ -52,7 +53,7 @@ fn fault_codes(rt: HostRuntime) {
 
 #[test]
 fn errors(rt: HostRuntime) -> Result<(), Fail> {
-    let refused = FrontError::Refused(Refusal { line: 3, code: 20 });
+    let refused = FrontError::Refused(Refusal::new(3, Rule::NoStatement));
     assert_eq!(rt;
         format!(in rt.alloc(); "{refused}")?.as_str(),
         "line 3: refused by rule 20"

@@ -1,3 +1,4 @@
+use Rattle.f77_ast.specs.declared.rule.Rule.TheVariants.{IfNesting}
 use Rattle.std.proofs.Common.{sym, ap, ◌∙◌}
 use Rattle.f77_shape.specs.Blocks.{is_misplaced_part, is_misplaced, opened_by}
 use Rattle.f77_shape.proofs.Firsts.{turned, first_from}
@@ -10,7 +11,7 @@ loop-listed-preserved c =
     let place = c.loop-listed.listed-index in
     let listed = c.listed-item.result in
     record {
-      first = turned 53 (is_misplaced_part unit) unit place listed c.loop-listed.first (first_from 53 (is_misplaced_part unit) unit 0) c.refused_if.result c.sooner-first.result c.is_misplaced-breaks.result c.loop-listed-test.true c.listed-item.is c.sooner-first.ensures c.refused_if.ensures
+      first = turned IfNesting (is_misplaced_part unit) unit place listed c.loop-listed.first (first_from IfNesting (is_misplaced_part unit) unit 0) c.refused_if.result c.sooner-first.result c.is_misplaced-breaks.result c.loop-listed-test.true c.listed-item.is c.sooner-first.ensures c.refused_if.ensures
           (c.is_misplaced-breaks.ensures ∙ ap (λ ifs. is_misplaced ifs listed.stmt) c.loop-listed.invariant.ifs)
           c.loop-listed.invariant.first;
       ifs =

@@ -1,3 +1,4 @@
+use Rattle.f77_ast.specs.declared.rule.Rule.TheVariants.{DoubleLabel}
 use Rattle.std.proofs.Common.{◌||◌, nat_eq, take, sym, ap, ◌∙◌}
 use Rattle.std.specs.HashSet.{contains}
 use Rattle.f77_structure.specs.Labels.{is_label}
@@ -12,7 +13,7 @@ loop-listed-preserved c =
     let place = c.loop-listed.listed-index in
     let listed = c.listed-item.result in
     record {
-      first = turned 51 (doubles_label unit) unit place listed c.loop-listed.first (first_from 51 (doubles_label unit) unit 0) c.refused_if.result c.sooner-first.result c.in_ok-breaks.breaks c.loop-listed-test.true c.listed-item.is c.sooner-first.ensures c.refused_if.ensures
+      first = turned DoubleLabel (doubles_label unit) unit place listed c.loop-listed.first (first_from DoubleLabel (doubles_label unit) unit 0) c.refused_if.result c.sooner-first.result c.in_ok-breaks.breaks c.loop-listed-test.true c.listed-item.is c.sooner-first.ensures c.refused_if.ensures
           (c.in_ok-breaks.ensures.again ∙ seen_is_any (contains nat_eq c.loop-listed.seen) listed.card.label (take place unit) c.loop-listed.invariant.seen)
           c.loop-listed.invariant.first;
       seen = λ label.

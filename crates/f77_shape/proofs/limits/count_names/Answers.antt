@@ -1,5 +1,6 @@
+use Rattle.f77_ast.specs.Limits.{most_names}
 use Rattle.std.proofs.Common.{◌≡◌, ◌+◌, ℕ, List, [], take, min, sym, ap, ◌∙◌, subst}
-use Rattle.f77_cards.specs.Cards.{first_of}
+use Rattle.f77_ast.specs.Refusal.{first_of}
 use Rattle.f77_shape.specs.Limits.{name_count, names_of, names_pass}
 use Rattle.f77_shape.specs.Names.{names_in}
 use Rattle.f77_shape.specs.NameSets.{Holds}
@@ -12,7 +13,7 @@ loop-listed-preserved c =
     let i = c.loop-listed.listed-index in
     let x = c.listed-item.result in
     let held : Holds (names_of (take (i + 1) unit)) c.statement.new.self = subst (λ (l : List (List ℕ)). Holds l c.statement.new.self) (sym (names_more unit i x c.loop-listed-test.true c.listed-item.is)) (holds_more (names_of (take i unit)) (names_in x.stmt) c.loop-listed.names c.statement.new.self c.loop-listed.invariant.names c.in_ok-statement.ensures) in
-    let count : c.capped-after.result ≡ min (c.args.others + name_count (names_of (take (i + 1) unit))) 10001 = c.capped-after.ensures ∙ ap (λ n. min (c.args.others + n) 10001) (c.len.ensures (names_of (take (i + 1) unit)) held) in
+    let count : c.capped-after.result ≡ min (c.args.others + name_count (names_of (take (i + 1) unit))) (most_names + 1) = c.capped-after.ensures ∙ ap (λ n. min (c.args.others + n) (most_names + 1)) (c.len.ensures (names_of (take (i + 1) unit)) held) in
     record {
       names = held;
       count = count;

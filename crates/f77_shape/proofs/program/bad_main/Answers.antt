@@ -1,11 +1,11 @@
+use Rattle.f77_ast.specs.declared.rule.Rule.TheVariants.{NoProgram}
 use Rattle.std.proofs.Common.{◌≡◌, ◌+◌, ◌||◌, ◌&&◌, false, not, [], if◌then◌else◌, sym, ap, ◌∙◌, drop}
 use Rattle.std.proofs.lemmas.List.{drop_all}
 use Rattle.std.specs.List.{list_any}
-use Rattle.f77_cards.specs.Cards.{first_of, when}
-use Rattle.f77_shape.specs.Breaks.{sooner}
+use Rattle.f77_ast.specs.Refusal.{first_of, when, sooner}
 use Rattle.f77_shape.specs.Program.{first_refused, second_mains, no_program}
 use Rattle.f77_structure.specs.Units.{is_main}
-use Rattle.f77_shape.proofs.Firsts.{sooner-none, first_of-append}
+use Rattle.f77_ast.proofs.Refusals.{sooner-none, first_of-append}
 use Rattle.f77_shape.proofs.UnitLemmas.{mains_turn, behind_turn, or_false}
 use Rattle.f77_shape.proofs.program.bad_main.Goals as goal
 
@@ -21,7 +21,7 @@ loop-unit-preserved c =
           ap (λ b. sooner c.sooner-first.result (first_of (second_mains b (drop (place + 1) units)))) behind
           ∙ ap (λ o. sooner o (first_of (second_mains (c.loop-unit.behind || is_main unit.listing) (drop (place + 1) units)))) c.sooner-first.ensures
           ∙ mains_turn units place unit c.loop-unit.behind c.loop-unit.first (first_of (second_mains false units)) c.second_main.result c.loop-unit-test.true c.unit-item.is
-          (c.second_main.ensures ∙ ap (λ m. first_of (if c.loop-unit.behind && m then first_refused 54 c.as_slice-listing.result.now else [])) main ∙ ap (λ l. first_of (if c.loop-unit.behind && is_main unit.listing then first_refused 54 l else [])) c.as_slice-listing.ensures)
+          (c.second_main.ensures ∙ ap (λ m. first_of (if c.loop-unit.behind && m then first_refused NoProgram c.as_slice-listing.result.now else [])) main ∙ ap (λ l. first_of (if c.loop-unit.behind && is_main unit.listing then first_refused NoProgram l else [])) c.as_slice-listing.ensures)
           c.loop-unit.invariant.first;
       behind =
           ap (λ b. b || list_any (λ u. is_main u.listing) (drop (place + 1) units)) behind

@@ -1,7 +1,6 @@
 use Rattle.std.proofs.Common.{◌≡◌, ◌||◌, false, drop}
 use Rattle.std.specs.List.{list_any}
-use Rattle.f77_cards.specs.Cards.{first_of}
-use Rattle.f77_shape.specs.Breaks.{sooner}
+use Rattle.f77_ast.specs.Refusal.{first_of, sooner}
 use Rattle.f77_shape.specs.Program.{second_mains}
 use Rattle.f77_structure.specs.Units.{is_main}
 use Rattle.f77_shape.proofs.program.bad_main.Given as goal

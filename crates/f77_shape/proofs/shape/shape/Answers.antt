@@ -3,7 +3,7 @@ use Rattle.std.specs.Prelude.{Result}
 use Rattle.f77_ast.specs.declared.program.Listed.{Listed}
 use Rattle.f77_ast.specs.declared.program.Unit.{Unit as ProgramUnit}
 use Rattle.f77_ast.specs.declared.refusal.Refusal.{Refusal}
-use Rattle.f77_cards.specs.Cards.{first_of}
+use Rattle.f77_ast.specs.Refusal.{first_of}
 use Rattle.f77_shape.specs.Limits.{statement_breaks}
 use Rattle.f77_shape.specs.Program.{end_breaks}
 use Rattle.f77_shape.specs.Shape.{breaks_among, breaks_of, unless_refused, shape_of}

@@ -1,3 +1,4 @@
+use Rattle.f77_ast.specs.declared.rule.Rule.TheVariants.{DoNesting, DoubleLabel, IfNesting, JumpIntoRange, LabelMissing, StatementOrder}
 use Rattle.std.proofs.Common.{◌++◌, List, ◌∙◌}
 use Rattle.f77_ast.specs.declared.refusal.Refusal.{Refusal}
 use Rattle.f77_shape.specs.Blocks.{is_misplaced_part, is_unended}
@@ -12,13 +13,13 @@ use Rattle.f77_shape.proofs.shape.unit_break.Goals as goal
 pub returns : goal.returns
 returns c =
     let unit = c.args.unit.now in
-    let missing : List Refusal = broken_by 50 (misses_label unit) 0 unit in
-    let double : List Refusal = broken_by 51 (doubles_label unit) 0 unit in
-    let range : List Refusal = broken_by 52 (breaks_range unit) 0 unit in
-    let part : List Refusal = broken_by 53 (is_misplaced_part unit) 0 unit in
-    let unended : List Refusal = broken_by 53 is_unended 0 unit in
-    let jump : List Refusal = broken_by 55 (jumps_in unit) 0 unit in
-    let order : List Refusal = broken_by 57 (is_out_of_order unit) 0 unit in
+    let missing : List Refusal = broken_by LabelMissing (misses_label unit) 0 unit in
+    let double : List Refusal = broken_by DoubleLabel (doubles_label unit) 0 unit in
+    let range : List Refusal = broken_by DoNesting (breaks_range unit) 0 unit in
+    let part : List Refusal = broken_by IfNesting (is_misplaced_part unit) 0 unit in
+    let unended : List Refusal = broken_by IfNesting is_unended 0 unit in
+    let jump : List Refusal = broken_by JumpIntoRange (jumps_in unit) 0 unit in
+    let order : List Refusal = broken_by StatementOrder (is_out_of_order unit) 0 unit in
     let labels = c.sooner-labels.ensures ∙ joined_first c.missing_label-missing.result c.in_ok-double.double missing double c.missing_label-missing.ensures c.in_ok-double.ensures in
     let ranges = c.sooner-ranges.ensures ∙ joined_first c.sooner-labels.result c.bad_range-range.result (missing ++ double) range labels c.bad_range-range.ensures in
     let parts = c.sooner-parts.ensures ∙ joined_first c.sooner-ranges.result c.in_ok-part.part (missing ++ double ++ range) part ranges c.in_ok-part.ensures in

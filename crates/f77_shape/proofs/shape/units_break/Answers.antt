@@ -4,12 +4,12 @@ use Rattle.std.specs.List.{flat_map}
 use Rattle.f77_ast.specs.declared.program.Listed.{Listed}
 use Rattle.f77_ast.specs.declared.program.Unit.{Unit as ProgramUnit}
 use Rattle.f77_ast.specs.declared.refusal.Refusal.{Refusal}
-use Rattle.f77_cards.specs.Cards.{first_of}
-use Rattle.f77_shape.specs.Breaks.{sooner}
+use Rattle.f77_ast.specs.Refusal.{first_of, sooner}
 use Rattle.f77_shape.specs.Limits.{unit_breaks, name_breaks}
 use Rattle.f77_shape.specs.Program.{main_breaks}
 use Rattle.f77_shape.specs.Shape.{breaks_in, breaks_among}
-use Rattle.f77_shape.proofs.Firsts.{joined_first, parts_turn, sooner-none, first_of-append}
+use Rattle.f77_ast.proofs.Refusals.{sooner-none, first_of-append}
+use Rattle.f77_shape.proofs.Firsts.{joined_first, parts_turn}
 use Rattle.f77_shape.proofs.shape.units_break.Goals as goal
 
 abbrev each : ProgramUnit → List Refusal

@@ -1,7 +1,6 @@
 use Rattle.std.proofs.Common.{◌≡◌, drop}
 use Rattle.std.specs.List.{flat_map}
-use Rattle.f77_cards.specs.Cards.{first_of}
-use Rattle.f77_shape.specs.Breaks.{sooner}
+use Rattle.f77_ast.specs.Refusal.{first_of, sooner}
 use Rattle.f77_shape.specs.Shape.{breaks_in, breaks_among}
 use Rattle.f77_shape.proofs.shape.units_break.Given as goal
 

@@ -1,0 +1,167 @@
+-- What an assignment asks for and writes, one answer after another.
+use Rattle.std.proofs.Common.{◌≡◌, ℕ, ℤ, List, [], ◌∷◌, ◌++◌, Option, None, Some, refl, sym, ap, ◌∙◌}
+use Rattle.hyb_base.specs.Reduction.{apply}
+use Rattle.hyb_base.specs.declared.ops.RedOp.{RedOp}
+use Rattle.f77_ast.specs.declared.expr.Expr.{Expr}
+use Rattle.f77_ast.specs.declared.expr.Ref.{Ref}
+use Rattle.f77_structure.specs.Values.{Value}
+use Rattle.f77_meaning.specs.Assign.{Accumulation, Written, accumulate, accumulated, accumulation_of, plainly, written_by, written_of}
+use Rattle.f77_meaning.specs.Demand.{Demand, gives, wants, calls, fails, and_then, Evaluation, Located, Setting, demand_of, location_of, number_of}
+use Rattle.f77_meaning.proofs.Demands.{demand_asks, given, location_asks}
+use Rattle.f77_meaning.proofs.Evaluations.{AsksInTurn, extends, leaves_none, then_asks, unmarked, uses_up}
+use Rattle.f77_meaning.proofs.Held.{Combines, IfAccumulates, IsHeld, accumulates}
+
+-- after the read of an accumulation: whatever the answer, it is combined with one number, and written where it was read
+pub record Combined (d : List ℤ → Demand Written) (answers : List ℤ) (address : ℕ) (op : RedOp) : Type 0 where
+  pub added : ℤ
+  pub writes : (x : ℤ) → d (answers ++ x ∷ []) ≡ gives (record { address = address; value = apply op x added; by = Some op }) []
+
+-- how an evaluation that writes uses its answers
+pub record Accumulates (d : List ℤ → Demand Written) : Type 0 where
+  -- after a marked read comes the marked write
+  pub combined : (answers : List ℤ) (address : ℕ) (op : RedOp) → d answers ≡ wants address (Some op) → Combined d answers address op
+  -- after an unmarked read comes no marked write
+  pub plain : (answers rest : List ℤ) (address : ℕ) (x : ℤ) (w : Written) (op : RedOp) → d answers ≡ wants address None → d (answers ++ x ∷ []) ≡ gives w rest → w.by ≡ Some op → ⊥
+  -- without an answer there is no marked write
+  pub fresh : (rest : List ℤ) (w : Written) (op : RedOp) → d [] ≡ gives w rest → w.by ≡ Some op → ⊥
+
+-- the address that is read last is the one that is written
+last_read : (op : RedOp) (address : ℕ) (f : ℤ → ℤ) (rest : List ℤ) (a : ℕ) (m : Option RedOp) → accumulate op address f rest ≡ wants a m → (rest ≡ []) × ((address ≡ a) × (Some op ≡ m))
+last_read op address f [] a m e = let c : wants address (Some op) ≡ wants a m = e in (refl, (cc, cc))
+last_read op address f (v ∷ rest) a m e = let c : gives (record { address = address; value = f v; by = Some op }) rest ≡ wants a m = e in absurd (cc)
+
+module _ (place : Located) (a : Accumulation) (held : IsHeld a.op a.held) where
+  marked : (answers : List ℤ) (address : ℕ) (op : RedOp) → accumulated place a answers ≡ wants address (Some op) → Combined (accumulated place a) answers address op
+  marked answers address op e = by (a.held answers) refl e
+    where
+      by : (d : Demand (ℤ → ℤ)) → a.held answers ≡ d → and_then d (λ value rest. accumulate a.op place.address value rest) ≡ wants address (Some op) → Combined (accumulated place a) answers address op
+      by (gives f rest) g e =
+          let l : (rest ≡ []) × ((place.address ≡ address) × (Some a.op ≡ Some op)) = last_read a.op place.address f rest address (Some op) e in
+          let c : Combines a.op f = held.combines answers rest f g in
+          let none : a.held answers ≡ gives f [] = g ∙ ap (gives f) l.0 in
+          let same : a.op ≡ op = let m : Some a.op ≡ Some op = l.1.1 in cc in
+          record {
+            added = c.added;
+            writes = λ x.
+                ap (λ d. and_then d (λ value rest. accumulate a.op place.address value rest)) (extends a.held answers [] (x ∷ []) f held.asks none)
+                ∙ (λ i. gives (record { address = l.1.0 i; value = c.is x i; by = Some a.op }) [])
+                ∙ (λ i. gives (record { address = address; value = apply (same i) x c.added; by = Some (same i) }) []);
+          }
+      by (wants b m) g e =
+          let c : wants b m ≡ wants address (Some op) = e in
+          let none : m ≡ None = unmarked a.held answers b m held.asks g in
+          absurd (cc)
+      by (calls u b) g e = absurd (cc)
+      by (fails x) g e = absurd (cc)
+
+  written_last : (answers rest : List ℤ) (address : ℕ) (x : ℤ) (w : Written) → accumulated place a answers ≡ wants address None → accumulated place a (answers ++ x ∷ []) ≡ gives w rest → ⊥
+  written_last answers rest address x w e g = by (a.held answers) refl e
+    where
+      nothing_left : (f : ℤ → ℤ) (more : List ℤ) → accumulate a.op place.address f more ≡ gives w rest → more ≡ [] → ⊥
+      nothing_left f [] e n = absurd (cc)
+      nothing_left f (v ∷ more) e n = absurd (cc)
+
+      later : (b : ℕ) (m : Option RedOp) → a.held answers ≡ wants b m → (d : Demand (ℤ → ℤ)) → a.held (answers ++ x ∷ []) ≡ d → and_then d (λ value more. accumulate a.op place.address value more) ≡ gives w rest → ⊥
+      later b m h (gives f more) k e = nothing_left f more e (uses_up a.held answers more b m x f held.asks h k)
+      later b m h (wants c n) k e = absurd (cc)
+      later b m h (calls u c) k e = absurd (cc)
+      later b m h (fails y) k e = absurd (cc)
+
+      by : (d : Demand (ℤ → ℤ)) → a.held answers ≡ d → and_then d (λ value more. accumulate a.op place.address value more) ≡ wants address None → ⊥
+      by (gives f more) h e = let l : (more ≡ []) × ((place.address ≡ address) × (Some a.op ≡ None)) = last_read a.op place.address f more address None e in absurd (let m : Some a.op ≡ None = l.1.1 in cc)
+      by (wants b m) h e = later b m h (a.held (answers ++ x ∷ [])) refl g
+      by (calls u b) h e = absurd (cc)
+      by (fails y) h e = absurd (cc)
+
+  never_at_once : (rest : List ℤ) (w : Written) → accumulated place a [] ≡ gives w rest → ⊥
+  never_at_once rest w e = by (a.held []) refl e
+    where
+      none_left : (f : ℤ → ℤ) (more : List ℤ) → more ≡ [] → accumulate a.op place.address f more ≡ gives w rest → ⊥
+      none_left f [] n e = absurd (cc)
+      none_left f (v ∷ more) n e = absurd (cc)
+
+      by : (d : Demand (ℤ → ℤ)) → a.held [] ≡ d → and_then d (λ value more. accumulate a.op place.address value more) ≡ gives w rest → ⊥
+      by (gives f more) h e = none_left f more (leaves_none a.held more f held.asks h) e
+      by (wants b m) h e = absurd (cc)
+      by (calls u b) h e = absurd (cc)
+      by (fails y) h e = absurd (cc)
+
+  accumulated_accumulates : Accumulates (accumulated place a)
+  accumulated_accumulates = record {
+    combined = marked;
+    plain = λ answers rest address x w op e g m. written_last answers rest address x w e g;
+    fresh = λ rest w op e m. never_at_once rest w e;
+  }
+
+-- an assignment that is no accumulation asks in turn, and writes without a mark
+plain_asks : (place : Located) (value : Evaluation) → AsksInTurn Value value → AsksInTurn Written (plainly place value)
+plain_asks place value h = then_asks value (λ v rest. gives (record { address = place.address; value = number_of v; by = None }) rest) h (λ v. given (record { address = place.address; value = number_of v; by = None }))
+
+plain_write : (place : Located) (value : Evaluation) (answers rest : List ℤ) (w : Written) → plainly place value answers ≡ gives w rest → w.by ≡ None
+plain_write place value answers rest w e = by (value answers) e
+  where
+    by : (d : Demand Value) → and_then d (λ v more. gives (record { address = place.address; value = number_of v; by = None }) more) ≡ gives w rest → w.by ≡ None
+    by (gives v more) e = let same : record { address = place.address; value = number_of v; by = None } ≡ w = cc in ap (λ x. x.by) (sym same)
+    by (wants b m) e = absurd (cc)
+    by (calls u b) e = absurd (cc)
+    by (fails y) e = absurd (cc)
+
+plainly_accumulates : (place : Located) (value : Evaluation) → AsksInTurn Value value → Accumulates (plainly place value)
+plainly_accumulates place value h = record {
+  combined = λ answers address op e. let n : Some op ≡ None = unmarked (plainly place value) answers address (Some op) (plain_asks place value h) e in absurd (cc);
+  plain = λ answers rest address x w op e g m. let n : Some op ≡ None = sym m ∙ plain_write place value (answers ++ x ∷ []) rest w g in absurd (cc);
+  fresh = λ rest w op e m. let n : Some op ≡ None = sym m ∙ plain_write place value [] rest w e in absurd (cc);
+}
+
+either_accumulates : (o : Option Accumulation) (place : Located) (value : Evaluation) → IfAccumulates o → AsksInTurn Value value → Accumulates (written_by o place value)
+either_accumulates None place value i h = plainly_accumulates place value h
+either_accumulates (Some a) place value i h = accumulated_accumulates place a i
+
+-- what comes after an evaluation that asks in turn, and leaves no answer that it needn't
+module _ {A : Type 0} (d : List ℤ → Demand A) (go : A → List ℤ → Demand Written) (asks : AsksInTurn A d) (goes : (value : A) → Accumulates (go value)) where
+  after_marked : (answers : List ℤ) (address : ℕ) (op : RedOp) → and_then (d answers) go ≡ wants address (Some op) → Combined (λ more. and_then (d more) go) answers address op
+  after_marked answers address op e = by (d answers) refl e
+    where
+      by : (r : Demand A) → d answers ≡ r → and_then r go ≡ wants address (Some op) → Combined (λ more. and_then (d more) go) answers address op
+      by (gives v rest) h e =
+          let c : Combined (go v) rest address op = (goes v).combined rest address op e in
+          record { added = c.added; writes = λ x. ap (λ r. and_then r go) (extends d answers rest (x ∷ []) v asks h) ∙ c.writes x }
+      by (wants b m) h e = let n : m ≡ None = unmarked d answers b m asks h in absurd (let k : wants b m ≡ wants address (Some op) = e in cc)
+      by (calls u b) h e = absurd (cc)
+      by (fails y) h e = absurd (cc)
+
+  after_plain : (answers rest : List ℤ) (address : ℕ) (x : ℤ) (w : Written) (op : RedOp) → and_then (d answers) go ≡ wants address None → and_then (d (answers ++ x ∷ [])) go ≡ gives w rest → w.by ≡ Some op → ⊥
+  after_plain answers rest address x w op e g marked = by (d answers) refl e
+    where
+      none : (v : A) (more : List ℤ) → more ≡ [] → go v more ≡ gives w rest → ⊥
+      none v more n e = (goes v).fresh rest w op (ap (go v) (sym n) ∙ e) marked
+
+      later : (b : ℕ) (m : Option RedOp) → d answers ≡ wants b m → (r : Demand A) → d (answers ++ x ∷ []) ≡ r → and_then r go ≡ gives w rest → ⊥
+      later b m h (gives v more) k e = none v more (uses_up d answers more b m x v asks h k) e
+      later b m h (wants c n) k e = absurd (cc)
+      later b m h (calls u c) k e = absurd (cc)
+      later b m h (fails y) k e = absurd (cc)
+
+      by : (r : Demand A) → d answers ≡ r → and_then r go ≡ wants address None → ⊥
+      by (gives v more) h e = (goes v).plain more rest address x w op e (ap (λ r. and_then r go) (sym (extends d answers more (x ∷ []) v asks h)) ∙ g) marked
+      by (wants b m) h e = later b m h (d (answers ++ x ∷ [])) refl g
+      by (calls u b) h e = absurd (cc)
+      by (fails y) h e = absurd (cc)
+
+  after_fresh : (rest : List ℤ) (w : Written) (op : RedOp) → and_then (d []) go ≡ gives w rest → w.by ≡ Some op → ⊥
+  after_fresh rest w op e marked = by (d []) refl e
+    where
+      by : (r : Demand A) → d [] ≡ r → and_then r go ≡ gives w rest → ⊥
+      by (gives v more) h e = (goes v).fresh rest w op (ap (go v) (sym (leaves_none d more v asks h)) ∙ e) marked
+      by (wants b m) h e = absurd (cc)
+      by (calls u b) h e = absurd (cc)
+      by (fails y) h e = absurd (cc)
+
+  then_accumulates : Accumulates (λ answers. and_then (d answers) go)
+  then_accumulates = record { combined = after_marked; plain = after_plain; fresh = after_fresh }
+
+-- each assignment
+pub written_accumulates : (s : Setting) (target : Ref) (value : Expr) → Accumulates (written_of s target value)
+written_accumulates s target value =
+    then_accumulates (location_of s target) (λ place rest. written_by (accumulation_of s target value) place (demand_of s value) rest) (location_asks s target)
+    (λ place. either_accumulates (accumulation_of s target value) place (demand_of s value) (accumulates s target value) (demand_asks s value))

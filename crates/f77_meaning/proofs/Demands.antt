@@ -1,0 +1,129 @@
+-- Expressions and references ask in turn.
+use Rattle.std.proofs.Common.{ℕ, zero, suc, ◌+◌, ℤ, pos, List, [], ◌∷◌, Option, None, Some, refl, sym, subst}
+use Rattle.f77_ast.specs.Entity.{entity_in}
+use Rattle.f77_ast.specs.declared.expr.Expr.{Expr}
+use Rattle.f77_ast.specs.declared.expr.Expr.TheFolds.{fold-roll-Expr, fold-roll-Ref, ind-Expr, ind-Ref, map-Expr, map-Ref}
+use Rattle.f77_ast.specs.declared.expr.Expr.TheOpen.{Expr-F, Part-F, Ref-F}
+use Rattle.f77_ast.specs.declared.expr.Expr.TheOpen as layer
+use Rattle.f77_ast.specs.declared.expr.Expr.TheViews.{roll-Expr, roll-Ref}
+use Rattle.f77_ast.specs.declared.expr.Part.{Part}
+use Rattle.f77_ast.specs.declared.expr.Ref.{Ref}
+use Rattle.f77_ast.specs.declared.fault.Fault.TheVariants.{Subscript}
+use Rattle.f77_ast.specs.declared.program.Entity.{Entity}
+use Rattle.f77_structure.specs.Storage.{address_of_variable, address_of_element}
+use Rattle.f77_structure.specs.Values.{Value, integer, truth, chars, Operated, yields, breaks, means_nothing, unary_of, binary_of, value_of_units}
+use Rattle.f77_meaning.specs.Demand.{gives, and_then, Evaluation, Located, Location, Setting, operated, cell_value, cells_from, demand_of, expr_step, located, location_of, number_demand, number_of, part_step, place_by, place_of, ref_step, value_at, width}
+use Rattle.f77_meaning.proofs.Evaluations.{AsksInTurn, settles, looks, then_asks}
+use Rattle.f77_meaning.proofs.Evaluations as turn
+
+-- a value that is there
+pub given : {A : Type 0} (value : A) → AsksInTurn A (λ answers. gives value answers)
+given value = settles (λ answers. gives value answers) value (λ answers. refl)
+
+cell_asks : (address : ℕ) → AsksInTurn ℤ (cell_value address)
+cell_asks address = looks (cell_value address) address refl (λ x. given x)
+
+cells_ask : (address count : ℕ) → AsksInTurn (List ℤ) (cells_from address count)
+cells_ask address zero = given []
+cells_ask address (suc count) =
+    then_asks (cell_value address) (λ first rest. and_then (cells_from (address + 1) count rest) (λ others more. gives (first ∷ others) more)) (cell_asks address)
+    (λ first. then_asks (cells_from (address + 1) count) (λ others more. gives (first ∷ others) more) (cells_ask (address + 1) count) (λ others. given (first ∷ others)))
+
+value_asks : (place : Located) → AsksInTurn Value (value_at place)
+value_asks place = then_asks (cells_from place.address (width place.kind place.len)) (λ cells rest. gives (value_of_units place.kind cells) rest) (cells_ask place.address (width place.kind place.len)) (λ cells. given (value_of_units place.kind cells))
+
+operator_asks : (o : Operated) → AsksInTurn Value (operated o)
+operator_asks (yields value) = given value
+operator_asks (breaks fault) = turn.breaks (operated (breaks fault)) fault (λ answers. refl)
+operator_asks means_nothing = given (integer (pos 0))
+
+place_asks : (entity : Entity) (address : Option ℕ) → AsksInTurn Located (place_by entity address)
+place_asks entity (Some address) = given (place_of entity address)
+place_asks entity None = turn.breaks (place_by entity None) Subscript (λ answers. refl)
+
+-- the one subscript of a list, where there is one, asks in turn
+abbrev pub SubscriptAsks : Option (List Evaluation) → Type 0
+SubscriptAsks None = Unit {0}
+SubscriptAsks (Some []) = Unit {0}
+SubscriptAsks (Some (subscript ∷ [])) = AsksInTurn Value subscript
+SubscriptAsks (Some (subscript ∷ second ∷ others)) = Unit {0}
+
+pub located_asks : (found : Option Entity) (args : Option (List Evaluation)) → SubscriptAsks args → AsksInTurn Located (located found args)
+located_asks None args all = turn.breaks (located None args) Subscript (λ answers. refl)
+located_asks (Some entity) None all = place_asks entity (address_of_variable entity)
+located_asks (Some entity) (Some []) all = turn.breaks (located (Some entity) (Some [])) Subscript (λ answers. refl)
+located_asks (Some entity) (Some (subscript ∷ [])) all =
+    then_asks subscript (λ s rest. place_by entity (address_of_element entity (number_of s)) rest) all (λ s. place_asks entity (address_of_element entity (number_of s)))
+located_asks (Some entity) (Some (subscript ∷ second ∷ others)) all = turn.breaks (located (Some entity) (Some (subscript ∷ second ∷ others))) Subscript (λ answers. refl)
+
+module _ (s : Setting) where
+  -- an expression, and a reference, with the proof that it asks in turn
+  abbrev ExprAsks : Expr → Type 0
+  ExprAsks e = AsksInTurn Value (demand_of s e)
+
+  abbrev PartAsks : Part → Type 0
+  PartAsks part = Unit {0}
+
+  abbrev RefAsks : Ref → Type 0
+  RefAsks r = AsksInTurn Located (location_of s r)
+
+  abbrev SomeExpr : Type 0
+  SomeExpr = (e : Expr) × ExprAsks e
+
+  abbrev SomePart : Type 0
+  SomePart = (p : Part) × PartAsks p
+
+  abbrev SomeRef : Type 0
+  SomeRef = (r : Ref) × RefAsks r
+
+  -- what an evaluation of a layer is, is what it is of the expression
+  of_layer : (z : Expr-F Expr Part Ref) → AsksInTurn Value (expr_step (map-Expr Expr Part Ref Evaluation (Unit {0}) Location (demand_of s) (λ p. tt) (location_of s) z)) → ExprAsks (roll-Expr z)
+  of_layer z h = subst (AsksInTurn Value) (sym (fold-roll-Expr Evaluation (Unit {0}) Location expr_step part_step (ref_step s) z)) h
+
+  of_ref_layer : (z : Ref-F Expr Part Ref) → AsksInTurn Located (ref_step s (map-Ref Expr Part Ref Evaluation (Unit {0}) Location (demand_of s) (λ p. tt) (location_of s) z)) → RefAsks (roll-Ref z)
+  of_ref_layer z h = subst (AsksInTurn Located) (sym (fold-roll-Ref Evaluation (Unit {0}) Location expr_step part_step (ref_step s) z)) h
+
+  abbrev plain_expr : Expr-F SomeExpr SomePart SomeRef → Expr-F Expr Part Ref
+  plain_expr = map-Expr SomeExpr SomePart SomeRef Expr Part Ref (λ e. e.0) (λ p. p.0) (λ r. r.0)
+
+  abbrev plain_ref : Ref-F SomeExpr SomePart SomeRef → Ref-F Expr Part Ref
+  plain_ref = map-Ref SomeExpr SomePart SomeRef Expr Part Ref (λ e. e.0) (λ p. p.0) (λ r. r.0)
+
+  expr_layer : (y : Expr-F SomeExpr SomePart SomeRef) → ExprAsks (roll-Expr (plain_expr y))
+  expr_layer (layer.Int value) = of_layer (layer.Int value) (given (integer value))
+  expr_layer (layer.Truth value) = of_layer (layer.Truth value) (given (truth value))
+  expr_layer (layer.Chars text) = of_layer (layer.Chars text) (given (chars text))
+  expr_layer (layer.Ref r) = of_layer (layer.Ref r.0) (then_asks (location_of s r.0) value_at r.1 value_asks)
+  expr_layer (layer.Unary op x) = of_layer (layer.Unary op x.0) (then_asks (demand_of s x.0) (λ v rest. operated (unary_of op v) rest) x.1 (λ v. operator_asks (unary_of op v)))
+  expr_layer (layer.Binary op x y) =
+      of_layer (layer.Binary op x.0 y.0)
+      (then_asks (demand_of s x.0) (λ v rest. and_then (demand_of s y.0 rest) (λ w more. operated (binary_of op v w) more)) x.1
+      (λ v. then_asks (demand_of s y.0) (λ w more. operated (binary_of op v w) more) y.1 (λ w. operator_asks (binary_of op v w))))
+  expr_layer (layer.Paren x) = of_layer (layer.Paren x.0) x.1
+
+  ref_by : (y : Ref-F SomeExpr SomePart SomeRef) (args : Option (List SomeExpr)) → AsksInTurn Located (ref_step s (map-Ref Expr Part Ref Evaluation (Unit {0}) Location (demand_of s) (λ p. tt) (location_of s) (plain_ref (record y { args = args }))))
+  ref_by y None = located_asks (entity_in s.layout.entities s.unit y.name) None tt
+  ref_by y (Some []) = located_asks (entity_in s.layout.entities s.unit y.name) (Some []) tt
+  ref_by y (Some (x ∷ [])) = located_asks (entity_in s.layout.entities s.unit y.name) (Some (demand_of s x.0 ∷ [])) x.1
+  ref_by y (Some (x ∷ z ∷ others)) = located_asks (entity_in s.layout.entities s.unit y.name) (Some (demand_of s x.0 ∷ demand_of s z.0 ∷ _)) tt
+
+  ref_layer : (y : Ref-F SomeExpr SomePart SomeRef) → RefAsks (roll-Ref (plain_ref y))
+  ref_layer y = of_ref_layer (plain_ref y) (ref_by y y.args)
+
+  -- expressions ask in turn
+  pub demand_asks : (e : Expr) → AsksInTurn Value (demand_of s e)
+  demand_asks = ind-Expr ExprAsks PartAsks RefAsks
+      (λ x y is. subst (λ z. ExprAsks (roll-Expr z)) is (expr_layer y))
+      (λ x y is. tt)
+      (λ x y is. subst (λ z. RefAsks (roll-Ref z)) is (ref_layer y))
+
+  -- references do
+  pub location_asks : (r : Ref) → AsksInTurn Located (location_of s r)
+  location_asks = ind-Ref ExprAsks PartAsks RefAsks
+      (λ x y is. subst (λ z. ExprAsks (roll-Expr z)) is (expr_layer y))
+      (λ x y is. tt)
+      (λ x y is. subst (λ z. RefAsks (roll-Ref z)) is (ref_layer y))
+
+  -- numbers do
+  pub number_asks : (e : Expr) → AsksInTurn ℤ (number_demand s e)
+  number_asks e = then_asks (demand_of s e) (λ value rest. gives (number_of value) rest) (demand_asks e) (λ value. given (number_of value))
