@@ -3,7 +3,7 @@ use Rattle.std.proofs.Common.{◌≡◌, ℕ, zero, suc, ◌+◌, ◌<◌, ◌�
 use Rattle.std.specs.Option.{option_map_or}
 use Rattle.f77_ast.specs.declared.program.Program.{Program}
 use Rattle.f77_ast.specs.declared.program.Unit.{Unit as ProgramUnit}
-use Rattle.f77_structure.specs.Units.{EndsWithEnd, listing_of, main_unit, statement_count}
+use Rattle.f77_structure.specs.Units.{EndsWithEnd, first_executable, listing_of, main_unit, statement_count}
 use Rattle.f77_meaning.specs.Sound.{IsSound}
 
 -- each unit has a statement
@@ -27,8 +27,8 @@ main_within program sound = within_some program.units (main_unit program.units) 
 pub main_fits : (program : Program) → IsSound program → main_unit program.units < 2 ^ 32
 main_fits program sound = omega (arith, main_within program sound, units_fit program.units sound.ended, sound.counted)
 
--- the statements of a unit that is there, or none
-pub listing_found : (units : List ProgramUnit) (u : ℕ) → listing_of units u ≡ option_map_or (λ unit. unit.listing) (slice_get units u) []
-listing_found [] u = refl
-listing_found (first ∷ units) zero = refl
-listing_found (first ∷ units) (suc u) = listing_found units u
+-- the first executable statement of a unit, looked for in the units
+pub first_found : (units : List ProgramUnit) (u : ℕ) → option_map_or (λ unit. first_executable unit.listing) (slice_get units u) 0 ≡ first_executable (listing_of units u)
+first_found [] u = refl
+first_found (first ∷ units) zero = refl
+first_found (first ∷ units) (suc u) = first_found units u

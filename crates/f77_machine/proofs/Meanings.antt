@@ -1,5 +1,5 @@
 -- What has a meaning has it in its parts.
-use Rattle.std.proofs.Common.{◌≡◌, ℕ, ◌&&◌, ◌<◌, ◌≤◌, Bool, true, false, List, [], ◌∷◌, length, map, get_or, Option, Some, IsTrue, sym, subst, ◌∙◌, arith}
+use Rattle.std.proofs.Common.{◌≡◌, ℕ, ◌&&◌, ◌<◌, ◌≤◌, Bool, true, false, List, [], ◌∷◌, length, map, get_or, Option, Some, IsTrue, refl, sym, subst, ◌∙◌, arith}
 use Rattle.std.specs.Option.{option_map}
 use Rattle.f77_ast.specs.declared.expr.Expr.{Expr, Binary}
 use Rattle.f77_ast.specs.declared.expr.Expr.TheFolds.{fold-roll-Expr}
@@ -21,6 +21,11 @@ last_two true true false h = absurd (cc)
 last_two true false c h = absurd (cc)
 last_two false b c h = absurd (cc)
 
+-- the first of two tests
+first : (a b : Bool) → IsTrue (a && b) → IsTrue a
+first true b h = refl
+first false b h = absurd (cc)
+
 -- the second of two tests
 pub second : (a b : Bool) → IsTrue (a && b) → IsTrue b
 second true b h = h
@@ -29,6 +34,10 @@ second false b h = absurd (cc)
 -- an operator and its operands
 binary_means : (layout : Layout) (unit : ℕ) (op : Op) (left right : Expr) → expr_has_meaning layout unit (Binary op left right) ≡ (is_arithmetic op && (expr_has_meaning layout unit left && expr_has_meaning layout unit right))
 binary_means layout unit op left right = ap (expr_has_meaning layout unit) (sym (rolls-Binary op left right)) ∙ fold-roll-Expr Bool (Unit {0}) Bool meaning_step meaning_part (meaning_ref layout unit) (layer.Binary op left right)
+
+pub op_means : (layout : Layout) (unit : ℕ) (expr left right : Expr) (op : Op) → expr ≡ Binary op left right → IsTrue (expr_has_meaning layout unit expr) → IsTrue (is_arithmetic op)
+op_means layout unit expr left right op e h =
+    first (is_arithmetic op) (expr_has_meaning layout unit left && expr_has_meaning layout unit right) (subst (λ b. IsTrue b) (binary_means layout unit op left right) (subst (λ x. IsTrue (expr_has_meaning layout unit x)) e h))
 
 -- the operands of an operator
 pub operands_mean : (layout : Layout) (unit : ℕ) (expr left right l r : Expr) (op : Op) → expr ≡ Binary op left right → l ≡ left → r ≡ right → IsTrue (expr_has_meaning layout unit expr) → IsTrue (expr_has_meaning layout unit l) × IsTrue (expr_has_meaning layout unit r)

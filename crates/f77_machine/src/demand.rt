@@ -1,6 +1,7 @@
 //! The value of an expression, from the values of the addresses that it reads (ANSI X3.9-1978, section 6).
 ghost use Rattle.std.specs.Prelude.{◌≡◌, ◌+◌, ◌<◌, ◌≤◌, ◌^◌, IsTrue, Some, map, length};
 ghost use Rattle.std.specs.Option.{option_map};
+ghost use Rattle.f77_ast.specs.declared.expr.Expr.{Binary};
 ghost use Rattle.f77_ast.specs.declared.expr.Kind.TheVariants.{Integer};
 ghost use Rattle.f77_structure.specs.HasMeaning.{expr_has_meaning, ref_has_meaning, names_integer};
 ghost use Rattle.f77_structure.specs.Storage.{IsStorage, LiesIn};
@@ -41,17 +42,39 @@ pub fn demand<'a>(layout: &Layout, unit: u32, expr: &Expr, answers: &'a [i64]) -
             Evaluated::Wants(address, by) => Evaluated::Wants(address, by),
             Evaluated::Fails(fault) => Evaluated::Fails(fault),
         },
-        Expr::Binary(op, left, right) => match demand(layout, unit, left.get(), answers) {
-            Evaluated::Gives(x, rest) => match demand(layout, unit, right.get(), rest) {
-                Evaluated::Gives(y, more) => binary(*op, x, y, more),
+        Expr::Binary(op, left, right) => {
+            let (left, right) = (left.get(), right.get());
+            operands_have_meaning(layout, unit, expr, *op, left, right);
+            match demand(layout, unit, left, answers) {
+                Evaluated::Gives(x, rest) => match demand(layout, unit, right, rest) {
+                    Evaluated::Gives(y, more) => binary(*op, x, y, more),
+                    Evaluated::Wants(address, by) => Evaluated::Wants(address, by),
+                    Evaluated::Fails(fault) => Evaluated::Fails(fault),
+                },
                 Evaluated::Wants(address, by) => Evaluated::Wants(address, by),
                 Evaluated::Fails(fault) => Evaluated::Fails(fault),
-            },
-            Evaluated::Wants(address, by) => Evaluated::Wants(address, by),
-            Evaluated::Fails(fault) => Evaluated::Fails(fault),
-        },
+            }
+        }
         Expr::Paren(inner) => demand(layout, unit, inner.get(), answers),
     }
+}
+
+/// A law for the prover, which does nothing: where an operator with two operands has a meaning, it is arithmetic, and its
+/// operands have one.
+fn operands_have_meaning(
+    layout: &Layout,
+    unit: u32,
+    expr: &Expr,
+    op: Op,
+    left: &Expr,
+    right: &Expr,
+)
+    requires is { expr.now ≡ Binary op left.now right.now }
+    requires meaning { IsTrue (expr_has_meaning layout.now unit expr.now) }
+    ensures op { IsTrue (is_arithmetic op) }
+    ensures left { IsTrue (expr_has_meaning layout.now unit left.now) }
+    ensures right { IsTrue (expr_has_meaning layout.now unit right.now) }
+{
 }
 
 /// What a reference stands for: a variable, or an array's element, whose subscript is evaluated first

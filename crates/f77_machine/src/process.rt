@@ -1,5 +1,6 @@
 //! Processes: one step at a time through the statements of a program.
-ghost use Rattle.std.specs.Prelude.{◌≡◌, ◌+◌, ◌^◌, ◌<◌, ◌≤◌, drop, length, vec_capacity};
+ghost use Rattle.std.specs.Prelude.{◌≡◌, ◌+◌, ◌^◌, ◌<◌, ◌≤◌, drop, length, slice_get, vec_capacity};
+ghost use Rattle.std.specs.Option.{option_map_or};
 ghost use Rattle.f77_structure.specs.Units.{first_executable, listing_of, main_unit};
 ghost use Rattle.f77_io.specs.Line.{text_of};
 ghost use Rattle.f77_meaning.specs.Print.{or_blank};
@@ -16,7 +17,7 @@ use crate::print::{Printed, Printing, print_items};
 use crate::reads::room_for;
 use f77_ast::expr::{Expr, Ref};
 use f77_ast::fault::Fault;
-use f77_ast::program::{Loop, Program};
+use f77_ast::program::{Loop, Program, Unit};
 use f77_ast::step::Stepped;
 use f77_ast::stmt::{Item, LoopControl, Stmt};
 use f77_io::input::Input;
@@ -496,10 +497,18 @@ fn main_of(program: &Program) -> u32
 }
 
 /// The place of the first executable statement of a unit.
+#[tactic(auto, using(crate::proofs::Mains::first_found))]
 fn entry_of(program: &Program, unit: u32) -> usize
     ensures { result ≡ first_executable (listing_of program.now.units unit) }
 {
-    match program.units.as_slice().get(unit as usize) {
+    first_in(program.units.as_slice(), unit)
+}
+
+/// The place of the first executable statement of a unit, looked for in the units; 0 where there is no such unit.
+fn first_in(units: &[Unit], unit: u32) -> usize
+    ensures { result ≡ option_map_or (λ entered. first_executable entered.listing) (slice_get units.now unit) 0 }
+{
+    match units.get(unit as usize) {
         None => 0,
         Some(entered) => first_executable(entered.listing.as_slice()),
     }

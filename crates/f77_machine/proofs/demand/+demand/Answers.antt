@@ -1,20 +1,13 @@
-use Rattle.std.proofs.Common.{◌≡◌, ◌≤◌, ◌∷◌, [], ◌∙◌, length, refl, rules, arith, sym, subst}
+use Rattle.std.proofs.Common.{◌≡◌, ◌≤◌, ◌∷◌, [], ◌∙◌, length, rules, arith, sym, subst}
 use Rattle.std.proofs.lemmas.Grind.{common_steps}
 use Rattle.f77_ast.specs.declared.expr.Expr.TheBlock as block
 use Rattle.f77_structure.specs.HasMeaning.{expr_has_meaning}
 use Rattle.f77_meaning.specs.Demand.{demand_of}
 use Rattle.f77_machine.specs.Setting.{setting_in}
-use Rattle.f77_machine.proofs.Meanings.{only_one, operands_mean, subscript_means, many_subscripts}
+use Rattle.f77_machine.proofs.Meanings.{only_one, subscript_means, many_subscripts}
 use Rattle.f77_machine.proofs.demand.+demand.Goals as goal
 
--- the right operand has a meaning
-pub demand-demand-requires-in-Gives-demand-2 : goal.demand-demand-requires-in-Gives-demand-2
-unfolding block.the_depth
-demand-demand-requires-in-Gives-demand-2 t c =
-    let both = operands_mean c.args.layout.now c.args.unit c.args.expr.now c.in-Binary.left c.in-Binary.right c.in-Binary.left c.get-in-Gives-demand-2.result.now c.in-Binary.op c.in-Binary.is refl c.get-in-Gives-demand-2.ensures c.requires.meaning in
-    (first_of (search rules, grind (arith, common_steps)), (c.requires.storage, both.1))
-
--- so has the subscript
+-- the subscript has a meaning
 pub located-demand-requires : goal.located-demand-requires
 unfolding block.the_depth
 located-demand-requires t c =
