@@ -5,7 +5,8 @@
 
 It takes crates/hybrid/out/hybrid, which `rt ci` and `rt run` leave, and prints nothing but a line where that is
 missing. A triple loop, a table of powers and a loop of a million trips are timed beside the same loops in python3; sources
-at the limits are timed beside sources of half their size, so that a time that grows with the square shows as a ratio of 4.
+at the limits, and PRINTs of arrays, are timed beside ones of half their size, so that a time that grows with the square shows as a
+ratio of 4.
 """
 
 import os
@@ -191,6 +192,20 @@ def at_the_limits(folder):
     print(f"1 MiB of PRINT lines, refused at line 10,001: {seconds:.3f} s")
 
 
+def prints(folder):
+    times = []
+    for count in (1_200, 2_400, 4_800):
+        lines = [f"INTEGER A({count})", "DO 10 I = 1, 200", "PRINT *, A", "10|CONTINUE", "END"]
+        seconds, (code, out, notes) = least(3, lambda: run(folder, lines))
+        if (code, out, notes) != (0, (" 0" * count + "\n") * 200, ""):
+            sys.exit(f"PRINT of {count} elements gave {code}, {len(out)} bytes, {notes!r}")
+        times.append(seconds)
+    print(
+        f"PRINT of arrays of 1,200, 2,400 and 4,800 elements: 200 of the first in {times[0]:.3f} s, "
+        f"then {times[1] / times[0]:.1f} and {times[2] / times[1]:.1f} times as much"
+    )
+
+
 def main():
     if not os.path.exists(PROGRAM):
         print("crates/hybrid/out/hybrid is missing: run `rt ci` first")
@@ -198,6 +213,7 @@ def main():
     with tempfile.TemporaryDirectory() as folder:
         loops(folder)
         at_the_limits(folder)
+        prints(folder)
 
 
 if __name__ == "__main__":
