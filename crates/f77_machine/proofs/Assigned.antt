@@ -1,5 +1,5 @@
 -- What an assignment writes.
-use Rattle.std.proofs.Common.{◌≡◌, ℕ, ℤ, pos, List, Option, None, Some, refl}
+use Rattle.std.proofs.Common.{◌≡◌, ℤ, pos, List, Option, None, Some, refl}
 use Rattle.std.specs.Option.{option_map}
 use Rattle.f77_meaning.specs.Assign.{Accumulation, Written, accumulated, written_by}
 use Rattle.f77_meaning.specs.Demand.{Demand, Evaluation, Located}

@@ -1,7 +1,7 @@
 -- Items of a line of PRINT.
-use Rattle.std.proofs.Common.{◌≡◌, ℤ, IsTrue, ◌&&◌, ℕ, zero, suc, ◌+◌, ◌<◌, ◌≤◌, List, [], ◌∷◌, ◌++◌, length, take, drop, get_or, Bool, true, false, None, Some, refl, sym, subst, ap, ◌∙◌, arith, length-append}
+use Rattle.std.proofs.Common.{◌≡◌, ℤ, IsTrue, ◌&&◌, ℕ, zero, suc, ◌+◌, ◌<◌, ◌≤◌, List, [], ◌∷◌, ◌++◌, length, take, drop, get_or, Bool, true, false, None, Some, refl, subst, ap, ◌∙◌, arith}
 use Rattle.std.specs.List.{list_all}
-use Rattle.std.specs.Prelude.{nat_le, max}
+use Rattle.std.specs.Prelude.{nat_le}
 use Rattle.f77_ast.specs.Limits.{most_line_bytes}
 use Rattle.f77_ast.specs.declared.program.Layout.{Layout}
 use Rattle.f77_ast.specs.declared.stmt.Item.{Item}

@@ -14,7 +14,7 @@ use Rattle.f77_meaning.specs.Do.{Begun, begun_of}
 use Rattle.f77_meaning.specs.Print as print
 use Rattle.f77_meaning.specs.Print.{asks, enters, whole, stops, printed_of}
 use Rattle.f77_meaning.specs.Process.{ActiveLoop, Frame, Process, Stage, at_statement, at_inner, at_entry, at_increment, is_blocked, listed_of}
-use Rattle.f77_meaning.specs.Step.{Move, reading, writing, taking, moving, printing, ending, failing, begin_move, do_move, frames_move, increment_move, listed_move, loop_of_do, move_of, print_move, stage_move, statement_move, write_move, unless_blocked}
+use Rattle.f77_meaning.specs.Step.{Move, reading, writing, taking, moving, printing, ending, failing, do_move, frames_move, increment_move, listed_move, loop_of_do, move_of, print_move, stage_move, statement_move, write_move, unless_blocked}
 use Rattle.f77_meaning.specs.StepOutcome.{on_input, outcome_from, outcome_of_step, stepped_of, line_after, taken_move}
 use Rattle.f77_meaning.proofs.Short.{IsShort, printed_short}
 

@@ -1,12 +1,11 @@
 -- A step, by where the process is.
-use Rattle.std.proofs.Common.{◌≡◌, ℕ, zero, suc, ◌+◌, ◌<◌, ◌≤◌, ◌^◌, ℤ, List, [], ◌∷◌, ◌++◌, All, length, Some, IsTrue, refl, sym, ap, subst, ◌∙◌, arith, slice_get}
+use Rattle.std.proofs.Common.{◌≡◌, ℕ, zero, suc, ◌+◌, ◌<◌, ◌≤◌, ◌^◌, ℤ, List, [], ◌∷◌, All, length, Some, IsTrue, refl, sym, ap, subst, ◌∙◌, arith, slice_get}
 use Rattle.std.proofs.lemmas.Option.{get_or_from_slice_get, slice_get_within}
 use Rattle.f77_ast.specs.declared.program.Listed.{Listed}
 use Rattle.f77_ast.specs.declared.program.Program.{Program}
 use Rattle.f77_ast.specs.declared.program.Unit.{Unit as ProgramUnit}
 use Rattle.f77_ast.specs.declared.step.Stepped.{Stepped}
 use Rattle.f77_structure.specs.HasMeaning.{statement_has_meaning}
-use Rattle.f77_structure.specs.Statements.{terminal_label}
 use Rattle.f77_structure.specs.Units.{listing_of, statement_number}
 use Rattle.f77_structure.proofs.Rising.{counted_in}
 use Rattle.f77_meaning.specs.Process as meaning

@@ -61,21 +61,13 @@ pub fn demand<'a>(layout: &Layout, unit: u32, expr: &Expr, answers: &'a [i64]) -
 
 /// A law for the prover, which does nothing: where an operator with two operands has a meaning, it is arithmetic, and its
 /// operands have one.
-fn operands_have_meaning(
-    layout: &Layout,
-    unit: u32,
-    expr: &Expr,
-    op: Op,
-    left: &Expr,
-    right: &Expr,
-)
+fn operands_have_meaning(layout: &Layout, unit: u32, expr: &Expr, op: Op, left: &Expr, right: &Expr)
     requires is { expr.now ≡ Binary op left.now right.now }
     requires meaning { IsTrue (expr_has_meaning layout.now unit expr.now) }
     ensures op { IsTrue (is_arithmetic op) }
     ensures left { IsTrue (expr_has_meaning layout.now unit left.now) }
     ensures right { IsTrue (expr_has_meaning layout.now unit right.now) }
-{
-}
+{}
 
 /// What a reference stands for: a variable, or an array's element, whose subscript is evaluated first
 /// and then checked (section 5.4).

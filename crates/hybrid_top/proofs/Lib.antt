@@ -1,6 +1,6 @@
 pub mod CauseLemmas
 pub mod CommandLemmas
-pub pub mod PrepareLemmas
+pub mod PrepareLemmas
 pub mod ReadLemmas
 pub mod RunLemmas
 pub mod ShowLemmas

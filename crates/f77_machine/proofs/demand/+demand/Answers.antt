@@ -1,4 +1,4 @@
-use Rattle.std.proofs.Common.{◌≡◌, ◌≤◌, ◌∷◌, [], ◌∙◌, length, rules, arith, sym, subst}
+use Rattle.std.proofs.Common.{◌≤◌, ◌∙◌, length, rules, arith, sym, subst}
 use Rattle.std.proofs.lemmas.Grind.{common_steps}
 use Rattle.f77_ast.specs.declared.expr.Expr.TheBlock as block
 use Rattle.f77_structure.specs.HasMeaning.{expr_has_meaning}

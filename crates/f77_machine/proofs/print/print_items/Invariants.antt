@@ -1,4 +1,4 @@
-use Rattle.std.proofs.Common.{◌≡◌, ◌+◌, ◌<◌, ◌≤◌, ◌^◌, length, drop}
+use Rattle.std.proofs.Common.{◌≡◌, ◌+◌, ◌<◌, ◌^◌, drop}
 use Rattle.f77_io.specs.Line.{text_of}
 use Rattle.f77_meaning.specs.Print.{after_items}
 use Rattle.f77_machine.specs.Print.{as_printing, BeginsWith}

@@ -1,4 +1,4 @@
-use Rattle.std.proofs.Common.{◌<◌, ◌^◌, ◌∙◌, arith, ap, sym}
+use Rattle.std.proofs.Common.{arith, ap}
 use Rattle.f77_structure.specs.Units.{main_unit}
 use Rattle.f77_machine.proofs.Mains.{main_fits}
 use Rattle.f77_machine.proofs.process.main_of.Goals as goal

@@ -1,4 +1,4 @@
-use Rattle.std.proofs.Common.{◌≡◌, ◌≤◌, ◌∙◌, sym, subst, length}
+use Rattle.std.proofs.Common.{◌≤◌, ◌∙◌, sym, subst, length}
 use Rattle.f77_io.specs.Input.{left_of}
 use Rattle.f77_io.specs.Line.{text_of}
 use Rattle.f77_meaning.specs.StepOutcome.{line_left}
