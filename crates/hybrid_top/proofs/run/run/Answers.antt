@@ -48,7 +48,7 @@ returns-in-Faulted g c =
 pub loop-left-preserved-in-Read : goal.loop-left-preserved-in-Read
 loop-left-preserved-in-Read g c = record {
   sound = c.loop-left.invariant.sound;
-  is_of = c.step.ensures.is_of;
+  is_of = c.in-Read.ensures.is_of;
   fits = c.step.ensures.fits;
   rest = λ s new t. c.loop-left.invariant.rest _ _
       (came_on c.args.machine.program
@@ -60,7 +60,7 @@ loop-left-preserved-in-Read g c = record {
 pub loop-left-preserved-in-Wrote : goal.loop-left-preserved-in-Wrote
 loop-left-preserved-in-Wrote g c = record {
   sound = c.loop-left.invariant.sound;
-  is_of = c.step.ensures.is_of;
+  is_of = c.in-Wrote.ensures.is_of;
   fits = c.step.ensures.fits;
   rest = λ s new t. c.loop-left.invariant.rest _ _
       (came_on c.args.machine.program
@@ -72,7 +72,7 @@ loop-left-preserved-in-Wrote g c = record {
 pub loop-left-preserved : goal.loop-left-preserved
 loop-left-preserved g c = record {
   sound = c.loop-left.invariant.sound;
-  is_of = c.step.ensures.is_of;
+  is_of = c.in-Inner.ensures.is_of;
   fits = c.step.ensures.fits;
   rest = λ s new t. c.loop-left.invariant.rest _ _
       (came_on c.args.machine.program
