@@ -1,5 +1,5 @@
 //! Whether copies and partial results can be reserved.
-ghost use Rattle.std.specs.Prelude.{◌≡◌, ◌≤◌, ◌+◌, [], ◌∷◌, All, IfOk, length};
+ghost use Rattle.std.specs.Prelude.{◌≡◌, ◌≤◌, ◌+◌, pos, [], ◌∷◌, All, IfOk, length};
 ghost use Rattle.std.specs.List.{IsDistinct};
 ghost use Rattle.slot_rows.specs.Rows.{regions_named, AreNamed};
 ghost use Rattle.slot_rows.specs.Spans.{overlap};
@@ -33,6 +33,13 @@ fn one_region(alloc: Global, cells: u32) -> Result<Layout, AllocError>
         total: cells,
         first: Nums::new(alloc),
     })
+}
+
+/// The number of the first region.
+fn first_region(alloc: Global) -> Result<Nums, AllocError>
+    ensures { IfOk result (λ nums. nums ≡ pos 0 ∷ []) }
+{
+    Ok(Nums::from_vec(Vec::from_array(alloc, [0])?))
 }
 
 /// Storage of no region.
@@ -87,7 +94,7 @@ fn reserve_one(
     window: u32,
     cells: u32,
 ) -> Result<(), AllocError> {
-    let numbers = Nums::from_vec(Vec::from_array(alloc, [0])?);
+    let numbers = first_region(alloc)?;
     let ops = List::from_vec(Vec::from_array(alloc, [RedOp::Add])?);
     let layout = one_region(alloc, cells)?;
     reserve(text, alloc, window, &numbers, &ops, &layout)
