@@ -3,6 +3,7 @@ pub mod Agreeing
 pub mod Bounds
 pub mod Cells
 pub mod Judging
+pub mod Naming
 pub mod Operators
 pub mod Pairs
 pub mod Touches

@@ -1,5 +1,5 @@
 -- The laws.
-use Rattle.std.specs.Prelude.{ℕ, ◌≡◌, ◌+◌, ◌<◌, ◌⊎◌, ◌↔◌, ◌&&◌, nat_le, nat_lt, true, false, List, [], ◌∷◌, ◌++◌, map, if◌then◌else◌}
+use Rattle.std.specs.Prelude.{ℕ, ◌≡◌, ◌+◌, ◌<◌, ◌⊎◌, ◌↔◌, ◌&&◌, nat_le, nat_lt, true, false, List, [], ◌∷◌, ◌++◌, map, Some, if◌then◌else◌}
 use Rattle.std.specs.List.{Contains}
 use Rattle.interleaving.specs.Modes.{Fits}
 use Rattle.interleaving.specs.Modes as cells
@@ -12,8 +12,8 @@ use Rattle.dependence.specs.declared.modes.Pair.{Pair}
 use Rattle.dependence.specs.declared.modes.Verdict.{Verdict}
 use Rattle.dependence.specs.Conflicts.{IsFlowPair, HasNoConflict, IsOfOne, IsFirst, IsLast}
 use Rattle.dependence.specs.Executions.{Trace, trace_of, is_touched, without_moves}
-use Rattle.dependence.specs.Regions.{Interval, IsIn, OnlyBy, IsModeOf, ModesFit}
-use Rattle.dependence.specs.Verdicts.{AreJudged, IsFlow, IsRight}
+use Rattle.dependence.specs.Regions.{Interval, IsIn, OnlyBy, Applies, row, IsModeOf, ModesFit}
+use Rattle.dependence.specs.Verdicts.{IsNamed, AreJudged, IsFlow, IsRight}
 
 -- an address has no conflict exactly where no iteration writes it or one alone accesses it
 abbrev pub ConflictsAre : Type 0
@@ -40,6 +40,10 @@ pub record VerdictsAre : Type 0 where
 -- the modes of judged regions fit
 abbrev pub JudgedFit : Type 0
 JudgedFit = (traces : List Trace) (regions : List Interval) (modes : List Judged) → AreJudged traces regions modes → ModesFit traces regions (map (λ judged. judged.mode) modes)
+
+-- the pair that comes with a mode rules out each mode before it
+abbrev pub PairsRuleOut : Type 0
+PairsRuleOut = (traces : List Trace) (region : Interval) (mode earlier : Mode) (pair : Pair) → IsNamed traces region mode (Some pair) → row earlier < row mode → Applies traces region earlier → ⊥
 
 -- how the cells of a region are used in the interleaving of iterations, by the mode of the region
 abbrev pub cell_mode : Mode → cells.Mode RedOp

@@ -1,6 +1,6 @@
 //! Laws on conflicts, modes and verdicts. Each function here does nothing: its contract is the law.
 
-ghost use Rattle.dependence.specs.Laws.{CellsFit, ConflictsAre, FlowsAre, JudgedFit, LastCountsNot, ModesRest, MovesCountNot, VerdictsAre};
+ghost use Rattle.dependence.specs.Laws.{CellsFit, ConflictsAre, FlowsAre, JudgedFit, LastCountsNot, ModesRest, MovesCountNot, PairsRuleOut, VerdictsAre};
 
 /// An address has no conflict exactly where no iteration writes it or one alone accesses it.
 pub fn law_of_conflicts()
@@ -17,6 +17,11 @@ pub fn law_of_flows()
 /// two modes.
 pub fn law_of_verdicts()
     ensures { VerdictsAre }
+{}
+
+/// The pair that comes with a mode rules out each mode before it.
+pub fn law_of_pairs()
+    ensures { PairsRuleOut }
 {}
 
 /// The modes of a right verdict fit.

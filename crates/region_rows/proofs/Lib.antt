@@ -1,1 +1,2 @@
 pub mod NineRegions
+pub mod OneRegion

@@ -1,4 +1,4 @@
--- The regions of the rows: eight of two cells side by side, and one of 1,000,000 far from them.
+-- The regions of the rows: eight of two cells side by side, and one of 1,000,000 far from them; and one from address 0 on.
 use Rattle.std.specs.Prelude.{ℕ, ◌<◌, ◌≤◌, ◌⊎◌, ℤ, pos, List, [], ◌∷◌}
 use Rattle.f77_ast.specs.declared.program.Region.{Region}
 use Rattle.hyb_base.specs.declared.ops.RedOp.{RedOp}
@@ -9,6 +9,9 @@ small start = record { start = start; len = 2 }
 
 abbrev pub great : Region
 great = record { start = 1000; len = 1000000 }
+
+abbrev pub cells_from_0 : ℕ → Region
+cells_from_0 n = record { start = 0; len = n }
 
 abbrev pub layout_regions : List Region
 layout_regions = small 0 ∷ small 2 ∷ small 4 ∷ small 6 ∷ small 8 ∷ small 10 ∷ small 12 ∷ small 14 ∷ great ∷ []

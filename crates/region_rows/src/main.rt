@@ -6,6 +6,7 @@ mod copies;
 mod memory;
 mod partials;
 mod regions;
+mod reserved;
 mod row;
 mod schedule;
 mod script;
@@ -32,6 +33,7 @@ fn given(alloc: Global, row: &Row) -> Result<String, AllocError> {
         Kind::Schedule => schedule::given(alloc, &row.words, &row.source),
         Kind::Copies => script::given(alloc, Stage::copies(alloc)?, &row.source),
         Kind::Partials => script::given(alloc, Stage::partials(alloc)?, &row.source),
+        Kind::Reserve => reserved::given(alloc, &row.words),
     }
 }
 

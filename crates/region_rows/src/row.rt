@@ -16,6 +16,8 @@ pub enum Kind {
     Copies,
     /// `partials`: the source is a script over partial results.
     Partials,
+    /// `reserve`: the words are a window, and the number of cells of one region, or nothing for no region.
+    Reserve,
 }
 
 /// A row: what is given, and what is wanted.
@@ -160,8 +162,11 @@ fn kind_of(command: &[u8]) -> Option<(Kind, &[u8])> {
     if let Some(words) = command.strip_prefix(b"copies") {
         return Some((Kind::Copies, words));
     }
-    let words = command.strip_prefix(b"partials")?;
-    Some((Kind::Partials, words))
+    if let Some(words) = command.strip_prefix(b"partials") {
+        return Some((Kind::Partials, words));
+    }
+    let words = command.strip_prefix(b"reserve")?;
+    Some((Kind::Reserve, words))
 }
 
 /// The rows of a file in their order, each of them read or not. Lines before the first name are one that isn't, and so is a

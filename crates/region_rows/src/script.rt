@@ -215,6 +215,6 @@ fn number(line: &[u8], place: usize) -> Option<i64> {
 }
 
 /// The slot, address or count at a place.
-fn small(line: &[u8], place: usize) -> Option<u32> {
+pub fn small(line: &[u8], place: usize) -> Option<u32> {
     str::from_utf8(word(line, place)?).ok()?.parse().ok()
 }

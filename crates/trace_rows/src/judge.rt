@@ -1,8 +1,8 @@
 //! What a row gives, and whether it is wanted.
 
 use crate::row::Row;
-use crate::sets::{address_text, members, set};
-use crate::traces::{layout, tell, verdict_lines};
+use crate::sets::{address_text, members, set, size};
+use crate::traces::{layout, tell, tell_all, verdict_lines};
 use hyb_base::no_memory::NoMemory;
 use loop_trace::Book;
 use std::alloc::Global;
@@ -17,14 +17,13 @@ fn of_traces(alloc: Global, row: &Row, regions: &[u8]) -> Result<Option<Vec<Stri
         return Ok(None);
     };
     let mut book = Book::new(alloc, &layout)?;
-    for iteration in &row.lists {
-        let Ok(words) = str::from_utf8(iteration) else {
+    for iterations in &row.lists {
+        let Ok(lines) = str::from_utf8(iterations) else {
             return Ok(None);
         };
-        if !tell(&mut book, words)? {
+        if !tell_all(&mut book, lines)? {
             return Ok(None);
         }
-        book.end_iteration()?;
     }
     if let Some(open) = &row.open {
         let Ok(words) = str::from_utf8(open) else {
@@ -36,6 +35,32 @@ fn of_traces(alloc: Global, row: &Row, regions: &[u8]) -> Result<Option<Vec<Stri
     }
     let verdict = book.verdict(alloc)?;
     Ok(Some(verdict_lines(alloc, &verdict)?))
+}
+
+/// The number of books of a call such as `books 7`.
+fn books(call: &[u8]) -> Option<u32> {
+    let (name, count) = str::from_utf8(call).ok()?.split_once(" ")?;
+    if name == "books" {
+        count.parse::<u32>().ok()
+    } else {
+        None
+    }
+}
+
+/// What a row of traces gives, of which many books are made one after another: what the last of them gives.
+fn of_books(
+    alloc: Global,
+    row: &Row,
+    regions: &[u8],
+    call: &[u8],
+) -> Result<Option<Vec<String>>, NoMemory> {
+    let Some(count) = books(call) else {
+        return Ok(None);
+    };
+    for _ in 1..count {
+        of_traces(alloc, row, regions)?;
+    }
+    of_traces(alloc, row, regions)
 }
 
 /// What a row of sets gives.
@@ -67,6 +92,7 @@ fn of_sets(alloc: Global, row: &Row, call: &[u8]) -> Result<Option<Vec<String>>,
         None if name == "least" => address_text(alloc, one.least())?,
         None if name == "union" => members(alloc, &one.union(alloc, other)?)?,
         None if name == "inter" => members(alloc, &one.inter(alloc, other)?)?,
+        None if name == "union_size" => format!(in alloc; "{}", size(&one.union(alloc, other)?))?,
         None if name == "minus" => members(alloc, &one.minus(alloc, other)?)?,
         _ => return Ok(None),
     };
@@ -79,8 +105,9 @@ fn of_sets(alloc: Global, row: &Row, call: &[u8]) -> Result<Option<Vec<String>>,
 pub fn given(alloc: Global, row: &Row) -> Result<Option<Vec<String>>, NoMemory> {
     match (&row.regions, &row.call) {
         (Some(regions), None) => of_traces(alloc, row, regions),
+        (Some(regions), Some(call)) => of_books(alloc, row, regions, call),
         (None, Some(call)) => of_sets(alloc, row, call),
-        _ => Ok(None),
+        (None, None) => Ok(None),
     }
 }
 

@@ -1,9 +1,11 @@
 //! Worked lists of traces, and sets of addresses, as rows of data: each row of the files that the words name is told to a
 //! book, or made of sets, and what comes is compared with what is wanted.
 //!
-//! A row begins with `@` and its name. In a row of traces `=` has the regions, each as its start and its length, each `<` is
-//! an iteration, whose accesses are words such as `r5`, `w5` and `+w5`, and `~` is an open one. In a row of sets `$` has the
-//! call, and each `<` a set. Each `>` is a line of what is wanted, or some lines of which one is, with ` / ` between them.
+//! A row begins with `@` and its name. In a row of traces `=` has the regions, each as its start and its length. The lines of
+//! `<`, which a repeat may make, are iterations, whose accesses are words such as `r5`, `w5`, `+w5`, and `r5..9` for reads of
+//! five addresses; `~` is an open one. `$ books N` makes N books of it, one after another. In a row of sets `$` has the
+//! call, and each `<` a set, of words such as `5` and `5..9`. Each `>` is a line of what is wanted, or some lines of which one
+//! is, with ` / ` between them.
 #![tactic(auto)]
 
 mod judge;

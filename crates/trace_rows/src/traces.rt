@@ -1,9 +1,10 @@
 //! Rows of traces: a book is told them.
 
-use crate::words::{region, sign, step};
+use crate::words::{Accesses, accesses_of, region, sign};
 use dependence::modes::{Judged, Mode, Pair, Verdict};
 use f77_ast::entities::Entities;
 use f77_ast::program::Layout;
+use f77_ast::step::Stepped;
 use hyb_base::list::List;
 use hyb_base::no_memory::NoMemory;
 use hyb_base::nums::Nums;
@@ -35,13 +36,36 @@ pub fn layout(alloc: Global, words: &str) -> Result<Option<Layout>, NoMemory> {
     }))
 }
 
-/// Tells a book the accesses of an iteration. Whether each word is one.
+/// Tells a book accesses, from the first address to the last.
+fn tell_accesses(book: &mut Book, accesses: Accesses) -> Result<(), NoMemory> {
+    for address in accesses.run.first..=accesses.run.last {
+        book.touch(&accesses.step(address))?;
+    }
+    Ok(())
+}
+
+/// Tells a book the accesses of an iteration, where `-` is a step without an address. Whether each word is one.
 pub fn tell(book: &mut Book, words: &str) -> Result<bool, NoMemory> {
     for word in words.split_whitespace() {
-        match step(word) {
-            Some(step) => book.touch(&step)?,
-            None => return Ok(false),
+        if word == "-" {
+            book.touch(&Stepped::Inner)?;
+        } else {
+            match accesses_of(word) {
+                Some(accesses) => tell_accesses(book, accesses)?,
+                None => return Ok(false),
+            }
         }
+    }
+    Ok(true)
+}
+
+/// Tells a book iterations that end, one a line. Whether each word is an access.
+pub fn tell_all(book: &mut Book, lines: &str) -> Result<bool, NoMemory> {
+    for words in lines.lines() {
+        if !tell(book, words)? {
+            return Ok(false);
+        }
+        book.end_iteration()?;
     }
     Ok(true)
 }
