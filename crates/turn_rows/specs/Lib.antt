@@ -1,0 +1,4 @@
+-- The definitions.
+pub mod CellModes
+pub mod Memory
+pub mod Walker
