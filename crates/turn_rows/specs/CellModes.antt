@@ -1,12 +1,12 @@
 -- Rows over cells of which each has a mode.
-use Rattle.std.specs.Prelude.{ℕ, ℤ, Option, None, Some, slice_get}
+use Rattle.std.specs.Prelude.{ℕ, ℤ, Option, None, Some, length, slice_get}
 use Rattle.hyb_base.specs.declared.ops.RedOp.{RedOp}
 use Rattle.interleaving.specs.ListStores.{store_of}
 use Rattle.interleaving.specs.Modes.{Mode, Shared, Private, Reduce}
-use Rattle.turn_rows.specs.declared.cell_modes.CellMode.{CellMode}
-use Rattle.turn_rows.specs.declared.cell_modes.CellMode.TheVariants.{Shared as shared, Private as own_copy, Reduce as own_partial}
-use Rattle.turn_rows.specs.declared.cell_modes.ModeRows.{ModeRows}
-use Rattle.turn_rows.specs.declared.cell_modes.OwnRow.{OwnRow}
+use Rattle.turn_rows.specs.declared.cell_mode.CellMode.{CellMode}
+use Rattle.turn_rows.specs.declared.cell_mode.CellMode.TheVariants.{Shared as shared, Private as own_copy, Reduce as own_partial}
+use Rattle.turn_rows.specs.declared.mode_rows.ModeRows.{ModeRows}
+use Rattle.turn_rows.specs.declared.own_row.OwnRow.{OwnRow}
 
 -- the mode that a value of the type is
 abbrev pub mode_of : CellMode → Mode RedOp
@@ -32,3 +32,7 @@ own_from (Some row) = own_of row
 
 abbrev pub own_in : ModeRows → ℕ → ℕ → Option ℤ
 own_in rows row = own_from (slice_get rows.rows.items row)
+
+-- the number of rows
+abbrev pub count_of : ModeRows → ℕ
+count_of rows = length rows.rows.items

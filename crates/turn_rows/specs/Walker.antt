@@ -1,5 +1,5 @@
 -- What a small process does.
-use Rattle.std.specs.Prelude.{ℕ, ℤ, pos, ◌+◌, ◌%◌, ◌^◌, List, [], ◌∷◌, length, nat_lt, if◌then◌else◌, Option, None, Some, slice_get, slice_index_or}
+use Rattle.std.specs.Prelude.{ℕ, ℤ, pos, ◌+◌, ◌%◌, ◌^◌, ◌≤◌, length, vec_capacity, nat_lt, if◌then◌else◌, Option, None, Some, slice_get, slice_index_or}
 use Rattle.hyb_base.specs.Reduction.{apply}
 use Rattle.hyb_base.specs.declared.ops.RedOp.{RedOp}
 use Rattle.interleaving.specs.Machine.{Event, reads, writes, moves, ends, faults}
@@ -54,3 +54,7 @@ start_in script number = record { process = record { at = slice_index_or script.
 -- the one fault
 abbrev pub stuck : Stuck
 stuck = record {}
+
+-- a process has room for an answer
+abbrev pub HasRoom : Walker → Type 0
+HasRoom walker = 1 ≤ vec_capacity walker.answers

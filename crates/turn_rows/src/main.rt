@@ -2,8 +2,10 @@
 //! its region gives is compared with what it is to give.
 #![tactic(auto)]
 
-mod cell_modes;
+mod cell_mode;
 mod memory;
+mod mode_rows;
+mod own_row;
 mod reading;
 mod row;
 mod script;

@@ -1,7 +1,7 @@
 //! The words of a row: cells, picks, iterations.
 ghost use Rattle.std.specs.Prelude.{◌≤◌, OnOk, length};
 
-use crate::cell_modes::CellMode;
+use crate::cell_mode::CellMode;
 use crate::script::{Op, Script};
 use hyb_base::ops::RedOp;
 use sched_text::schedule::{Picks, Schedule};

@@ -1,7 +1,12 @@
 //! The region of a row.
+ghost use Rattle.std.specs.Prelude.{◌≡◌, ◌<◌, ◌≤◌, true, length, IfOk, IfSome};
+ghost use Rattle.turn_rows.specs.Memory.{values_of};
+ghost use Rattle.turn_rows.specs.declared.memory.Memory.{Memory};
+ghost use Rattle.turn_rows.specs.Regions.{CanStep, IsOneLoop, IsOver, BeginsWith};
 
-use crate::cell_modes::{CellMode, ModeRows};
+use crate::cell_mode::CellMode;
 use crate::memory::Memory;
+use crate::mode_rows::ModeRows;
 use crate::reading::{add_line, add_picks, cell};
 use crate::row::{Kind, Row};
 use crate::script::Script;
@@ -52,7 +57,11 @@ fn modes_of(
     alloc: Global,
     text: &str,
     cells: &mut Memory,
-) -> Result<Option<Vec<CellMode>>, AllocError> {
+) -> Result<Option<Vec<CellMode>>, AllocError>
+    requires { length (values_of cells.old) ≡ 256 }
+    ensures few { IfOk result (λ found. IfSome found (λ modes. length modes.items ≤ 256)) }
+    ensures held { length (values_of cells.new) ≡ 256 }
+{
     let mut modes = Vec::new(alloc);
     for line in text.lines() {
         let address = modes.len();
@@ -73,7 +82,12 @@ fn begun(
     script: &Script,
     modes: Vec<CellMode>,
     window: u32,
-) -> Result<Stage, NoMemory> {
+) -> Result<Stage, NoMemory>
+    requires few { length modes.items ≤ 256 }
+    requires wide { 0 < window }
+    requires trips { window ≤ length script.now.starts.items }
+    ensures { IfOk result (λ stage. ((memory : Memory) → length (values_of memory) ≡ 256 → CanStep stage.running memory) × BeginsWith stage.main stage.running) }
+{
     let rows = ModeRows::new(alloc, modes, window)?;
     let main = Walker::new(alloc, script)?;
     let trips = script.starts.len() as u64;
@@ -88,7 +102,12 @@ fn show_steps(
     running: &mut Running<Walker, ModeRows>,
     cells: &mut Memory,
     picks: &[u64],
-) -> Result<bool, AllocError> {
+) -> Result<bool, AllocError>
+    requires { CanStep running.old cells.old }
+    ensures can { CanStep running.new cells.new }
+    ensures one { IsOneLoop running.old running.new }
+    ensures over { IfOk result (λ over. over ≡ true → IsOver script.now running.new) }
+{
     for pick in picks {
         let answer = running.advance(script, cells, *pick);
         show_answer(text, answer)?;
@@ -107,7 +126,12 @@ fn show_end(
     running: &mut Running<Walker, ModeRows>,
     cells: &mut Memory,
     picks: &[u64],
-) -> Result<bool, AllocError> {
+) -> Result<bool, AllocError>
+    requires { CanStep running.old cells.old }
+    ensures can { CanStep running.new cells.new }
+    ensures one { IsOneLoop running.old running.new }
+    ensures over { IfOk result (λ over. over ≡ true → IsOver script.now running.new) }
+{
     let answer: Option<Advanced<Stuck>> = running.advance_all(script, cells, picks);
     match answer {
         None => text.push_str("not over")?,
@@ -126,7 +150,10 @@ fn show(
     modes: Vec<CellMode>,
     cells: &mut Memory,
     picks: &[u64],
-) -> Result<(), AllocError> {
+) -> Result<(), AllocError>
+    requires few { length modes.items ≤ 256 }
+    requires held { length (values_of cells.old) ≡ 256 }
+{
     if row.window == 0 || row.window as usize > script.starts.len() {
         return text.push_str("NO WINDOW\n");
     }

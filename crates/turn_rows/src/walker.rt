@@ -1,7 +1,7 @@
 //! A small process, which does the operations of a script.
-ghost use Rattle.std.specs.Prelude.{◌≡◌, ◌^◌, ◌%◌, ◌+◌, pos, length, slice_get, slice_index_or};
+ghost use Rattle.std.specs.Prelude.{◌≡◌, ◌^◌, ◌%◌, ◌+◌, pos, length, slice_get, slice_index_or, IfOk};
 ghost use Rattle.region_run.specs.Asked.{asked_of, IsWithin};
-ghost use Rattle.turn_rows.specs.Walker.{event_of, stuck};
+ghost use Rattle.turn_rows.specs.Walker.{event_of, stuck, place_of, HasRoom};
 
 use crate::script::{Op, Script};
 use hyb_base::no_memory::NoMemory;
@@ -27,7 +27,9 @@ pub struct Walker {
 
 impl Walker {
     /// The process with which the loop of a script begins.
-    pub fn new(alloc: Global, script: &Script) -> Result<Walker, NoMemory> {
+    pub fn new(alloc: Global, script: &Script) -> Result<Walker, NoMemory>
+        ensures { IfOk result HasRoom }
+    {
         Ok(Walker {
             at: script.ops.len(),
             answers: Vec::with_capacity(alloc, 1)?,
@@ -94,10 +96,10 @@ fn value_of(number: u64) -> i64
 
 impl Asks for Walker {
     type Program = Script;
+
     type Fault = Stuck;
 
-    ghost use Rattle.std.specs.Prelude.{◌≤◌, vec_capacity};
-    ghost use Rattle.turn_rows.specs.Walker.{Place, place_of, event_in, answered, next_op, start_in, place_after};
+    ghost use Rattle.turn_rows.specs.Walker.{Place, event_in, answered, next_op, start_in, place_after};
 
     ghost Meant = { Place };
 
@@ -117,7 +119,7 @@ impl Asks for Walker {
 
     ghost following = { λ script p. place_after script };
 
-    ghost is_of = { λ script walker. 1 ≤ vec_capacity walker.answers };
+    ghost is_of = { λ script walker. HasRoom walker };
 
     ghost total = { λ script. 256 };
 

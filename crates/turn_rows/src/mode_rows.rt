@@ -1,35 +1,16 @@
 //! Rows over cells of which each has a mode.
-ghost use Rattle.std.specs.Prelude.{◌≡◌, ◌≢◌, ◌<◌, ◌≤◌, ℕ, ℤ, Option, None, Some, All, IfOk, IsTrue, length, slice_index_or, slice_set};
-ghost use Rattle.interleaving.specs.ListStores.{store_of};
+ghost use Rattle.std.specs.Prelude.{◌≡◌, ◌≢◌, ◌<◌, ◌≤◌, ℕ, None, All, IfOk, IsTrue, length};
 ghost use Rattle.interleaving.specs.Machine.{put};
-ghost use Rattle.interleaving.specs.Region.{answer_of, merged};
+ghost use Rattle.interleaving.specs.Region.{merged};
 ghost use Rattle.region_run.specs.Machine.{operators, store_of_cells};
-ghost use Rattle.turn_rows.specs.CellModes.{mode_of, mode_at, own_of, own_in};
+ghost use Rattle.turn_rows.specs.CellModes.{mode_of, mode_at, own_of, own_in, count_of};
 
+use crate::cell_mode::CellMode;
+use crate::own_row::OwnRow;
 use hyb_base::cells::Cells;
 use hyb_base::no_memory::NoMemory;
-use hyb_base::ops::RedOp;
-use red_ops::{apply, identity};
 use region_run::rows::Rows;
 use std::alloc::Global;
-
-/// How iterations use a cell.
-#[derive(Clone, Copy)]
-pub enum CellMode {
-    /// They share it.
-    Shared,
-    /// Each writes a copy of its own.
-    Private,
-    /// Each accumulates a partial result of its own by this operator.
-    Reduce(RedOp),
-}
-
-/// What one iteration has of its own: its value of each of the first cells, where it has one.
-#[derive(Drop)]
-pub struct OwnRow {
-    /// The values.
-    values: Vec<Option<i64>>,
-}
 
 /// A row for each place of a window, over cells of which the first have these modes; the others are shared.
 #[derive(Drop)]
@@ -42,73 +23,27 @@ pub struct ModeRows {
     ghost few: { length modes.items ≤ 256 },
 }
 
-/// What a read answers, by the value of the cell and the iteration's own.
-fn answer(mode: CellMode, value: i64, own: Option<i64>) -> i64
-    ensures { result ≡ answer_of operators (mode_of mode) value own }
+/// So many rows of so many places, without a value of their own.
+fn empty_rows(alloc: Global, count: u32, places: usize) -> Result<Vec<OwnRow>, NoMemory>
+    ensures count { IfOk result (λ rows. length rows.items ≡ count) }
+    ensures places { IfOk result (λ rows. All (λ row. length row.values.items ≡ places) rows.items) }
+    ensures clear { IfOk result (λ rows. All (λ row. own_of row ≡ (λ a. None)) rows.items) }
 {
-    match mode {
-        CellMode::Shared => value,
-        CellMode::Private => own.unwrap_or(value),
-        CellMode::Reduce(op) => own.unwrap_or(identity(op)),
+    let mut rows = Vec::with_capacity(alloc, count as usize)?;
+    for _made in 0..count {
+        rows.push(OwnRow::new(alloc, places)?)?;
     }
-}
-
-/// The value of a cell after a commit, by its value before and the iteration's own.
-fn merged(mode: CellMode, value: i64, own: Option<i64>) -> i64
-    ensures { result ≡ merged operators (mode_of mode) value own }
-{
-    match mode {
-        CellMode::Shared => value,
-        CellMode::Private => own.unwrap_or(value),
-        CellMode::Reduce(op) => match own {
-            None => value,
-            Some(partial) => apply(op, value, partial),
-        },
-    }
-}
-
-impl OwnRow {
-    /// A row of so many places, without a value of its own.
-    fn new(alloc: Global, places: usize) -> Result<OwnRow, NoMemory>
-        ensures places { IfOk result (λ row. length row.values.items ≡ places) }
-        ensures clear { IfOk result (λ row. own_of row ≡ (λ a. None)) }
-    {
-        Ok(OwnRow {
-            values: Vec::from_elem(alloc, None, places)?,
-        })
-    }
-
-    /// Its own value of a cell, where it has one.
-    fn get(&self, address: u32) -> Option<i64>
-        ensures { result ≡ own_of self.now address }
-    {
-        match self.values.get(address as usize) {
-            None => None,
-            Some(own) => *own,
-        }
-    }
-
-    /// Sets its own value of a cell.
-    fn set(&mut self, address: u32, own: Option<i64>)
-        requires { address < length self.old.values.items }
-        ensures own { own_of self.new ≡ put (own_of self.old) address own }
-        ensures places { length self.new.values.items ≡ length self.old.values.items }
-    {
-        self.values[address as usize] = own;
-    }
+    Ok(rows)
 }
 
 impl ModeRows {
     /// Rows for the places of a window, each without a value of its own, where the first cells have these modes.
     pub fn new(alloc: Global, modes: Vec<CellMode>, window: u32) -> Result<ModeRows, NoMemory>
         requires { length modes.items ≤ 256 }
-        ensures count { IfOk result (λ rows. length rows.rows.items ≡ window) }
+        ensures count { IfOk result (λ rows. count_of rows ≡ window) }
         ensures clear { IfOk result (λ rows. (row : ℕ) → own_in rows row ≡ (λ a. None)) }
     {
-        let mut rows = Vec::with_capacity(alloc, window as usize)?;
-        for _ in 0..window {
-            rows.push(OwnRow::new(alloc, modes.len())?)?;
-        }
+        let rows = empty_rows(alloc, window, modes.len())?;
         Ok(ModeRows { modes, rows })
     }
 
@@ -124,19 +59,19 @@ impl ModeRows {
 
     /// Sets a row's own value of a cell.
     fn set_own(&mut self, row: u32, address: u32, own: Option<i64>)
-        requires row { row < length self.old.rows.items }
+        requires row { row < count_of self.old }
         requires place { address < length self.old.modes.items }
         ensures own { own_in self.new row ≡ put (own_in self.old row) address own }
         ensures others { (other : ℕ) → other ≢ row → own_in self.new other ≡ own_in self.old other }
         ensures same_modes { self.new.modes ≡ self.old.modes }
-        ensures same_count { length self.new.rows.items ≡ length self.old.rows.items }
+        ensures same_count { count_of self.new ≡ count_of self.old }
     {
         self.rows[row as usize].set(address, own);
     }
 
     /// Commits a row at one cell.
     fn commit_cell<C: Cells>(&mut self, row: u32, address: u32, cells: &mut C)
-        requires row { row < length self.old.rows.items }
+        requires row { row < count_of self.old }
         requires place { address < length self.old.modes.items }
         requires held { address < length (C.values cells.old) }
         requires allowed { (a : ℕ) → IsTrue (C.may_get cells.old a) }
@@ -146,11 +81,11 @@ impl ModeRows {
         ensures own { own_in self.new row ≡ put (own_in self.old row) address None }
         ensures others { (other : ℕ) → other ≢ row → own_in self.new other ≡ own_in self.old other }
         ensures same_modes { self.new.modes ≡ self.old.modes }
-        ensures same_count { length self.new.rows.items ≡ length self.old.rows.items }
+        ensures same_count { count_of self.new ≡ count_of self.old }
     {
         let own = self.rows[row as usize].get(address);
         let value = cells.get(address);
-        cells.put(address, merged(self.mode(address), value, own));
+        cells.put(address, self.mode(address).merged(value, own));
         self.set_own(row, address, None);
     }
 }
@@ -158,7 +93,7 @@ impl ModeRows {
 impl Rows for ModeRows {
     ghost modes = { mode_at };
 
-    ghost count = { λ rows. length rows.rows.items };
+    ghost count = { count_of };
 
     ghost total = { λ rows. 256 };
 
@@ -166,7 +101,7 @@ impl Rows for ModeRows {
 
     fn read<C: Cells>(&self, row: u32, address: u32, cells: &mut C) -> i64 {
         let own = self.rows[row as usize].get(address);
-        answer(self.mode(address), cells.get(address), own)
+        self.mode(address).answer(cells.get(address), own)
     }
 
     fn write<C: Cells>(&mut self, row: u32, address: u32, value: i64, cells: &mut C) {
