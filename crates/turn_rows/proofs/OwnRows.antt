@@ -1,5 +1,5 @@
 -- Rows of values of their own, and a commit cell by cell.
-use Rattle.std.proofs.Common.{ℕ, zero, suc, ℤ, ◌+◌, ◌<◌, ◌≤◌, ◌≡◌, ◌==◌, ◌∙◌, ⊥, Bool, true, false, List, [], ◌∷◌, length, get_or, Option, None, Some, if◌then◌else◌, refl, sym, ap, subst, arith, eqb-true, eq-eqb}
+use Rattle.std.proofs.Common.{ℕ, zero, suc, ℤ, pos, ◌+◌, ◌<◌, ◌≤◌, ◌≡◌, ◌==◌, ◌∙◌, Bool, true, false, List, [], ◌∷◌, length, get_or, Option, None, Some, if◌then◌else◌, refl, sym, ap, subst, arith, eqb-true, eq-eqb}
 use Rattle.std.specs.Prelude.{slice_get, slice_set, nat_lt}
 use Rattle.std.specs.Prelude.{All}
 use Rattle.std.proofs.lemmas.Bool.{lt-ltb, le-ltb, ltb-false}
@@ -12,9 +12,11 @@ use Rattle.hyb_base.specs.declared.ops.RedOp.{RedOp}
 use Rattle.interleaving.specs.Machine.{Store, put}
 use Rattle.interleaving.specs.Modes.{Mode, Shared}
 use Rattle.interleaving.specs.Region.{merged, commit}
-use Rattle.region_run.specs.Machine.{operators}
+use Rattle.interleaving.proofs.ListStores.{are_stores}
+use Rattle.region_run.specs.Machine.{operators, store_of_cells}
+use Rattle.turn_rows.specs.declared.mode_rows.ModeRows.{ModeRows}
 use Rattle.turn_rows.specs.declared.own_row.OwnRow.{OwnRow}
-use Rattle.turn_rows.specs.CellModes.{own_of, own_from, mode_of, mode_from}
+use Rattle.turn_rows.specs.CellModes.{own_of, own_from, mode_from, mode_at}
 use Rattle.turn_rows.specs.declared.cell_mode.CellMode.{CellMode}
 
 get_set_same : (rows : List OwnRow) (s : ℕ) (row : OwnRow) → s < length rows → slice_get (slice_set rows s row) s ≡ Some row
@@ -53,12 +55,16 @@ not_itself k = le-ltb k k (omega arith)
 elsewhere : (a k : ℕ) → (k == a) ≡ false → nat_lt a (k + 1) ≡ nat_lt a k
 elsewhere a k e = grind (arith, nat_tests)
 
+-- no cell
+pub commits_none : (modes : ℕ → Mode RedOp) (s : Store ℤ) (own : ℕ → Option ℤ) → s ≡ store_to modes s own 0
+commits_none modes s own = fun_ext (λ a. ap (λ (t : Bool). if t then merged operators (modes a) (s a) (own a) else s a) (sym (le-ltb a 0 (omega arith))))
+
+pub clears_none : (own : ℕ → Option ℤ) → own ≡ own_to own 0
+clears_none own = fun_ext (λ a. ap (λ (t : Bool). if t then None else own a) (sym (le-ltb a 0 (omega arith))))
+
 store_next : (modes : ℕ → Mode RedOp) (s : Store ℤ) (own : ℕ → Option ℤ) (k : ℕ) → put (store_to modes s own k) k (merged operators (modes k) (store_to modes s own k k) (own_to own k k)) ≡ store_to modes s own (k + 1)
 store_next modes s own k = fun_ext at
   where
-    value : ℤ
-    value = merged operators (modes k) (store_to modes s own k k) (own_to own k k)
-
     here : merged operators (modes k) (store_to modes s own k k) (own_to own k k) ≡ store_to modes s own (k + 1) k
     here =
         ap (λ (t : Bool). merged operators (modes k) (if t then merged operators (modes k) (s k) (own k) else s k) (if t then None else own k)) (not_itself k)
@@ -124,3 +130,17 @@ pub none_anywhere : (rows : List OwnRow) (row : ℕ) → All (λ r. own_of r ≡
 none_anywhere [] row h = refl
 none_anywhere (r ∷ rows) zero h = h 0 r (omega arith)
 none_anywhere (r ∷ rows) (suc row) h = none_anywhere rows row (All-tail (λ r. own_of r ≡ (λ a. None)) r rows h)
+
+-- a cell of a list of values, after a commit at its address
+pub cell_committed : (values new : List ℤ) (a : ℕ) (value came : ℤ) (mode mode' : Mode RedOp) (own own' : Option ℤ) → a < length values → slice_get values a ≡ Some value → mode' ≡ mode → own' ≡ own → came ≡ merged operators mode' value own' → new ≡ slice_set values a came → store_of_cells new ≡ put (store_of_cells values) a (merged operators mode (store_of_cells values a) own)
+cell_committed values new a value came mode mode' own own' h is m o e w =
+    ap store_of_cells w ∙ (are_stores ℤ).written_within (pos 0) values a came h
+    ∙ ap (λ (x : ℤ). put (store_of_cells values) a x) (e ∙ ap (λ (x : Mode RedOp). merged operators x value own') m ∙ ap (λ (x : Option ℤ). merged operators mode value x) o ∙ ap (λ (x : ℤ). merged operators mode x own) (sym ((are_stores ℤ).holds (pos 0) values a value is)))
+
+-- the row's own value at an address
+pub own_read : (rows : List OwnRow) (row a : ℕ) (was : OwnRow) → slice_get rows row ≡ Some was → own_of was a ≡ own_from (slice_get rows row) a
+own_read rows row a was is = ap (λ (r : Option OwnRow). own_from r a) (sym is)
+
+-- rows with the same modes
+pub same_modes : (old new : ModeRows) → new.modes ≡ old.modes → mode_at new ≡ mode_at old
+same_modes old new e = fun_ext (λ a. let same : new.modes.items ≡ old.modes.items = cc in ap (λ (modes : List CellMode). mode_from (slice_get modes a)) same)

@@ -1,12 +1,8 @@
 //! Rows over cells of which each has a mode.
-ghost use Rattle.std.specs.Prelude.{◌≡◌, ◌≢◌, ◌<◌, ◌≤◌, ℕ, None, All, IfOk, IsTrue, length};
-ghost use Rattle.interleaving.specs.Machine.{put};
-ghost use Rattle.interleaving.specs.Region.{merged};
-ghost use Rattle.region_run.specs.Machine.{operators, store_of_cells};
-ghost use Rattle.turn_rows.specs.CellModes.{mode_of, mode_at, own_of, own_in, count_of};
+ghost use Rattle.std.specs.Prelude.{◌≡◌, ◌≤◌, All, length};
 
 use crate::cell_mode::CellMode;
-use crate::own_row::OwnRow;
+use crate::own_row::{OwnRow, empty_rows};
 use hyb_base::cells::Cells;
 use hyb_base::no_memory::NoMemory;
 use region_run::rows::Rows;
@@ -23,20 +19,13 @@ pub struct ModeRows {
     ghost few: { length modes.items ≤ 256 },
 }
 
-/// So many rows of so many places, without a value of their own.
-fn empty_rows(alloc: Global, count: u32, places: usize) -> Result<Vec<OwnRow>, NoMemory>
-    ensures count { IfOk result (λ rows. length rows.items ≡ count) }
-    ensures places { IfOk result (λ rows. All (λ row. length row.values.items ≡ places) rows.items) }
-    ensures clear { IfOk result (λ rows. All (λ row. own_of row ≡ (λ a. None)) rows.items) }
-{
-    let mut rows = Vec::with_capacity(alloc, count as usize)?;
-    for _made in 0..count {
-        rows.push(OwnRow::new(alloc, places)?)?;
-    }
-    Ok(rows)
-}
-
 impl ModeRows {
+    ghost use Rattle.std.specs.Prelude.{◌≢◌, ◌<◌, ℕ, None, IfOk, IsTrue};
+    ghost use Rattle.interleaving.specs.Machine.{put};
+    ghost use Rattle.interleaving.specs.Region.{merged};
+    ghost use Rattle.region_run.specs.Machine.{operators, store_of_cells};
+    ghost use Rattle.turn_rows.specs.CellModes.{mode_of, mode_at, own_in, count_of};
+
     /// Rows for the places of a window, each without a value of its own, where the first cells have these modes.
     pub fn new(alloc: Global, modes: Vec<CellMode>, window: u32) -> Result<ModeRows, NoMemory>
         requires { length modes.items ≤ 256 }
@@ -91,6 +80,8 @@ impl ModeRows {
 }
 
 impl Rows for ModeRows {
+    ghost use Rattle.turn_rows.specs.CellModes.{mode_at, own_in, count_of};
+
     ghost modes = { mode_at };
 
     ghost count = { count_of };

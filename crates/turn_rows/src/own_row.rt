@@ -1,5 +1,5 @@
 //! What one iteration has of its own.
-ghost use Rattle.std.specs.Prelude.{◌≡◌, ◌<◌, None, IfOk, length};
+ghost use Rattle.std.specs.Prelude.{◌≡◌, ◌<◌, None, All, IfOk, length};
 ghost use Rattle.interleaving.specs.Machine.{put};
 ghost use Rattle.turn_rows.specs.CellModes.{own_of};
 
@@ -42,4 +42,17 @@ impl OwnRow {
     {
         self.values[address as usize] = own;
     }
+}
+
+/// So many rows of so many places, without a value of their own.
+pub fn empty_rows(alloc: Global, count: u32, places: usize) -> Result<Vec<OwnRow>, NoMemory>
+    ensures count { IfOk result (λ rows. length rows.items ≡ count) }
+    ensures places { IfOk result (λ rows. All (λ row. length row.values.items ≡ places) rows.items) }
+    ensures clear { IfOk result (λ rows. All (λ row. own_of row ≡ (λ a. None)) rows.items) }
+{
+    let mut rows = Vec::with_capacity(alloc, count as usize)?;
+    for _made in 0..count {
+        rows.push(OwnRow::new(alloc, places)?)?;
+    }
+    Ok(rows)
 }

@@ -35,6 +35,20 @@ impl Walker {
             answers: Vec::with_capacity(alloc, 1)?,
         })
     }
+
+    /// The answer to the read of its operation, once there is one.
+    fn answer(&self) -> Option<i64>
+        ensures { result ≡ slice_get self.now.answers.items 0 }
+    {
+        self.answers.get(0).copied()
+    }
+}
+
+/// The operation at an index.
+fn op_at(script: &Script, at: usize) -> Option<Op>
+    ensures { result ≡ slice_get script.now.ops.items at }
+{
+    script.ops.get(at).copied()
 }
 
 /// What an operation does next, by the answer to its read.
@@ -137,10 +151,7 @@ impl Asks for Walker {
     }
 
     fn ask(&mut self, script: &Script) -> Asked<Stuck> {
-        asked_by(
-            script.ops.get(self.at).copied(),
-            self.answers.first().copied(),
-        )
+        asked_by(op_at(script, self.at), self.answer())
     }
 
     fn resume(&mut self, _script: &Script, value: i64) {

@@ -1,7 +1,7 @@
 use Rattle.std.proofs.Common.{◌≡◌, length, None}
 use Rattle.std.specs.Prelude.{All}
 use Rattle.turn_rows.specs.CellModes.{own_of}
-use Rattle.turn_rows.proofs.mode_rows.empty_rows.Given as goal
+use Rattle.turn_rows.proofs.own_row.empty_rows.Given as goal
 
 -- the rows by now have no value of their own
 abbrev pub invariant-loop-made : goal.invariant-loop-made
