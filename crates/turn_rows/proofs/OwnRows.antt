@@ -126,10 +126,10 @@ unlisted_own (r ∷ rows) n zero a h l = get_or_past r.values.items a None (let 
 unlisted_own (r ∷ rows) n (suc row) a h l = unlisted_own rows n row a (All-tail (λ r. length r.values.items ≡ n) r rows h) l
 
 -- rows of which none has a value of its own
-pub none_anywhere : (rows : List OwnRow) (row : ℕ) → All (λ r. own_of r ≡ (λ a. None)) rows → own_from (slice_get rows row) ≡ (λ a. None)
+pub none_anywhere : (rows : List OwnRow) (row : ℕ) → All (λ r. (a : ℕ) → own_of r a ≡ None) rows → own_from (slice_get rows row) ≡ (λ a. None)
 none_anywhere [] row h = refl
-none_anywhere (r ∷ rows) zero h = h 0 r (omega arith)
-none_anywhere (r ∷ rows) (suc row) h = none_anywhere rows row (All-tail (λ r. own_of r ≡ (λ a. None)) r rows h)
+none_anywhere (r ∷ rows) zero h = fun_ext (λ a. h 0 r (omega arith) a)
+none_anywhere (r ∷ rows) (suc row) h = none_anywhere rows row (All-tail (λ r. (a : ℕ) → own_of r a ≡ None) r rows h)
 
 -- a cell of a list of values, after a commit at its address
 pub cell_committed : (values new : List ℤ) (a : ℕ) (value came : ℤ) (mode mode' : Mode RedOp) (own own' : Option ℤ) → a < length values → slice_get values a ≡ Some value → mode' ≡ mode → own' ≡ own → came ≡ merged operators mode' value own' → new ≡ slice_set values a came → store_of_cells new ≡ put (store_of_cells values) a (merged operators mode (store_of_cells values a) own)

@@ -12,7 +12,7 @@ use Rattle.turn_rows.specs.Walker.{place_of, start_in, HasRoom}
 
 -- a region that can take a step, over 256 cells
 pub record CanStep (running : Running Walker ModeRows) (memory : Memory) : Type 0 where
-  pub running : IsRunning HasRoom place_of count_of own_in running
+  pub is_running : IsRunning HasRoom place_of count_of own_in running
   pub held : length (values_of memory) ≡ 256
 
 -- the region of one loop, before and after some steps

@@ -1,5 +1,5 @@
 //! What one iteration has of its own.
-ghost use Rattle.std.specs.Prelude.{◌≡◌, ◌<◌, None, All, IfOk, length};
+ghost use Rattle.std.specs.Prelude.{◌≡◌, ◌<◌, ℕ, None, All, IfOk, length};
 ghost use Rattle.interleaving.specs.Machine.{put};
 ghost use Rattle.turn_rows.specs.CellModes.{own_of};
 
@@ -17,7 +17,7 @@ impl OwnRow {
     /// A row of so many places, without a value of its own.
     pub fn new(alloc: Global, places: usize) -> Result<OwnRow, NoMemory>
         ensures places { IfOk result (λ row. length row.values.items ≡ places) }
-        ensures clear { IfOk result (λ row. own_of row ≡ (λ a. None)) }
+        ensures clear { IfOk result (λ row. (a : ℕ) → own_of row a ≡ None) }
     {
         Ok(OwnRow {
             values: Vec::from_elem(alloc, None, places)?,
@@ -48,7 +48,7 @@ impl OwnRow {
 pub fn empty_rows(alloc: Global, count: u32, places: usize) -> Result<Vec<OwnRow>, NoMemory>
     ensures count { IfOk result (λ rows. length rows.items ≡ count) }
     ensures places { IfOk result (λ rows. All (λ row. length row.values.items ≡ places) rows.items) }
-    ensures clear { IfOk result (λ rows. All (λ row. own_of row ≡ (λ a. None)) rows.items) }
+    ensures clear { IfOk result (λ rows. All (λ row. (a : ℕ) → own_of row a ≡ None) rows.items) }
 {
     let mut rows = Vec::with_capacity(alloc, count as usize)?;
     for _made in 0..count {
