@@ -4,8 +4,8 @@ use Rattle.hyb_base.specs.declared.ops.RedOp.{RedOp}
 use Rattle.interleaving.specs.Loops.{LoopHasLeft}
 use Rattle.interleaving.specs.Machine.{Machine, Store}
 use Rattle.interleaving.specs.Modes.{Mode}
-use Rattle.interleaving.specs.OwnCells.{Owner, with_own, owners_of}
-use Rattle.interleaving.specs.Region.{Region, begun, advanced_all}
+use Rattle.interleaving.specs.OwnCells.{Owner, with_own}
+use Rattle.interleaving.specs.Region.{Region, advanced_all}
 use Rattle.interleaving.proofs.LoopRegions.{loop_interleaves}
 use Rattle.region_run.specs.declared.running.Advanced.{Advanced}
 use Rattle.region_run.specs.Advanced.{came_through}

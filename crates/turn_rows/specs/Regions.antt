@@ -1,5 +1,5 @@
 -- The region of a row.
-use Rattle.std.specs.Prelude.{ℕ, ℤ, ◌≡◌, List, [], length}
+use Rattle.std.specs.Prelude.{◌≡◌, [], length}
 use Rattle.region_run.specs.declared.running.Running.{Running}
 use Rattle.region_run.specs.Running.{pending_of, IsRunning, SameLoop}
 use Rattle.turn_rows.specs.declared.mode_rows.ModeRows.{ModeRows}

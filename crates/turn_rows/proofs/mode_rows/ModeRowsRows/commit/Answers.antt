@@ -1,7 +1,7 @@
-use Rattle.std.proofs.Common.{◌≡◌, ◌≤◌, ◌≢◌, ◌∙◌, ℕ, length, rules, arith}
+use Rattle.std.proofs.Common.{◌≤◌, ◌∙◌, length, rules, arith}
 use Rattle.std.proofs.lemmas.Grind.{common_steps}
 use Rattle.region_run.specs.Machine.{store_of_cells}
-use Rattle.turn_rows.specs.CellModes.{mode_at, own_in, count_of}
+use Rattle.turn_rows.specs.CellModes.{mode_at, own_in}
 use Rattle.turn_rows.proofs.OwnRows.{commits_next, clears_next, commits_all, clears_all, unlisted, unlisted_own, same_modes}
 use Rattle.turn_rows.proofs.mode_rows.ModeRowsRows.commit.Goals as goal
 
