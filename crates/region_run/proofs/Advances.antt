@@ -1,11 +1,11 @@
 -- One step of a region, put together.
-use Rattle.std.proofs.Common.{ℕ, zero, suc, ℤ, ◌+◌, ◌%◌, ◌<◌, ◌≤◌, ◌≡◌, Bool, true, false, List, [], ◌∷◌, ◌++◌, length, take, get_or, if◌then◌else◌, Option, None, Some, refl, sym, ap, ap₂, ◌∙◌, subst, arith, mod-lt, map, length-append}
+use Rattle.std.proofs.Common.{ℕ, zero, suc, ℤ, ◌+◌, ◌%◌, ◌<◌, ◌≤◌, ◌≡◌, true, false, List, [], ◌∷◌, ◌++◌, length, take, get_or, if◌then◌else◌, Option, None, Some, refl, sym, ap, ap₂, ◌∙◌, subst, arith, mod-lt, map, length-append}
 use Rattle.std.proofs.lemmas.List.{length-map}
 use Rattle.hyb_base.specs.declared.ops.RedOp.{RedOp}
 use Rattle.interleaving.specs.Machine.{Event, reads, writes, moves, ends, faults, Machine, Store}
 use Rattle.interleaving.specs.Modes.{Mode}
 use Rattle.interleaving.specs.OwnCells.{Owner, Start, with_own}
-use Rattle.interleaving.specs.Picks.{Picked, picked_of, picked, index_at, iteration_at}
+use Rattle.interleaving.specs.Picks.{picked_of, picked, index_at, iteration_at}
 use Rattle.interleaving.specs.Region.{Iteration, Region, step_at, settled, settled_from, place_of, advanced, advanced_all, unfinished}
 use Rattle.region_run.specs.declared.asks.Asked.{Asked}
 use Rattle.region_run.specs.declared.asks.Asked.TheVariants.{Reads, Writes, Moves, Ends, Faults}

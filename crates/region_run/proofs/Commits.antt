@@ -13,7 +13,7 @@ use Rattle.region_run.specs.declared.running.Running.{Running}
 use Rattle.region_run.specs.Live.{iteration_of}
 use Rattle.region_run.specs.Machine.{machine_of}
 use Rattle.region_run.specs.Places.{numbers}
-use Rattle.region_run.specs.Running.{HaveOwnRows, rest_of, live_of, pending_of, trips_of, HoldsTogether, Committed, Began, is_first_finished, SameLoop}
+use Rattle.region_run.specs.Running.{HaveOwnRows, rest_of, live_of, pending_of, HoldsTogether, Committed, Began, is_first_finished}
 use Rattle.region_run.proofs.Places.{numbers_fit, numbers_more}
 use Rattle.region_run.proofs.Turns.{All-tail, All-head, All-one, map_others, rows_more, settled_first, settled_going}
 

@@ -1,5 +1,5 @@
 -- The window grows, and the next iteration begins.
-use Rattle.std.proofs.Common.{ℕ, zero, suc, ℤ, ◌+◌, ◌-◌, ◌<◌, ◌≡◌, ◌≢◌, true, false, List, [], ◌∷◌, ◌++◌, length, get_or, Option, refl, sym, ap, ◌∙◌, subst, arith, All, vec_capacity, length-append}
+use Rattle.std.proofs.Common.{ℕ, suc, ℤ, ◌+◌, ◌-◌, ◌<◌, ◌≡◌, ◌≢◌, true, false, List, [], ◌∷◌, ◌++◌, length, get_or, Option, refl, sym, ap, ◌∙◌, subst, arith, All, vec_capacity, length-append}
 use Rattle.std.proofs.lemmas.List.Elements.{All-append}
 use Rattle.std.specs.VecDeque.{deque_capacity}
 use Rattle.hyb_base.specs.declared.ops.RedOp.{RedOp}
@@ -8,7 +8,7 @@ use Rattle.interleaving.specs.OwnCells.{Owner, Start}
 use Rattle.interleaving.specs.Region.{Iteration}
 use Rattle.region_run.specs.declared.live.Live.{Live}
 use Rattle.region_run.specs.declared.running.Running.{Running}
-use Rattle.region_run.specs.Running.{pending_of, trips_of, HoldsTogether, Began, Grew, is_first_finished}
+use Rattle.region_run.specs.Running.{pending_of, HoldsTogether, Began, Grew, is_first_finished}
 use Rattle.region_run.proofs.Commits.{Between, running_next, slots_began}
 use Rattle.region_run.proofs.Turns.{All-one}
 

@@ -18,7 +18,7 @@ use Rattle.region_run.specs.Asked.{asked_of, is_end, is_fault}
 use Rattle.region_run.specs.Live.{iteration_of, step_of, outcome_from, finished_by, all_from, DidStep, ChangedAt}
 use Rattle.region_run.specs.Machine.{machine_of, store_of_cells}
 use Rattle.region_run.specs.Places.{numbers, spliced}
-use Rattle.region_run.specs.Running.{HaveOwnRows, rest_of, live_of, pending_of, trips_of, HoldsTogether}
+use Rattle.region_run.specs.Running.{HaveOwnRows, rest_of, live_of, pending_of, HoldsTogether}
 use Rattle.region_run.proofs.Places.{length_numbers, number_at, index_below, going_at, numbers_going, numbers_done, step_at_index}
 use Rattle.region_run.proofs.Turns.{map_changed, rows_set}
 

@@ -5,3 +5,4 @@ pub mod Live
 pub mod Places
 pub mod Running
 pub mod Advanced
+pub mod InTurn

@@ -1,5 +1,5 @@
 -- What a live iteration means, and one step of it.
-use Rattle.std.specs.Prelude.{◌≡◌, ◌≢◌, List, slice_index_or, slice_set, ℕ, ℤ, Bool, true, false, ◌==◌, Option, None, Some, if◌then◌else◌}
+use Rattle.std.specs.Prelude.{◌≡◌, ◌≢◌, List, slice_index_or, slice_set, ℕ, ℤ, Bool, true, ◌==◌, Option, None, Some, if◌then◌else◌}
 use Rattle.hyb_base.specs.declared.ops.RedOp.{RedOp}
 use Rattle.interleaving.specs.Machine.{Event, Store}
 use Rattle.interleaving.specs.Modes.{Mode}

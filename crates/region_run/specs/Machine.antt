@@ -1,5 +1,5 @@
 -- The machine of a loop's iterations, by what their processes say of themselves.
-use Rattle.std.specs.Prelude.{ℕ, ℤ, pos, List}
+use Rattle.std.specs.Prelude.{ℤ, pos, List}
 use Rattle.hyb_base.specs.Reduction.{apply, identity}
 use Rattle.hyb_base.specs.declared.ops.RedOp.{RedOp}
 use Rattle.interleaving.specs.ListStores.{store_of}

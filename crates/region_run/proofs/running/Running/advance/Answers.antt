@@ -1,4 +1,4 @@
-use Rattle.std.proofs.Common.{rules, arith, sym, ap, ◌∙◌, add-one, ◌≡◌, ◌<◌, ◌+◌, ◌%◌, ◌^◌, length, get_or, refl, None}
+use Rattle.std.proofs.Common.{rules, arith, ap, ◌∙◌, add-one, ◌≡◌, ◌<◌, ◌+◌, ◌%◌, length, get_or, refl, None}
 use Rattle.interleaving.specs.Picks.{index_at}
 use Rattle.region_run.specs.declared.running.Advanced.TheVariants.{Ran, Faulted}
 use Rattle.interleaving.specs.Region.{fresh}

@@ -1,4 +1,4 @@
-use Rattle.std.proofs.Common.{ℕ, ℤ, List, ◌∙◌, ap, ap₂, arith}
+use Rattle.std.proofs.Common.{ℕ, ℤ, List, ap₂, arith}
 use Rattle.interleaving.specs.OwnCells.{Owner}
 use Rattle.interleaving.specs.Region.{Iteration}
 use Rattle.region_run.specs.Machine.{store_of_cells}

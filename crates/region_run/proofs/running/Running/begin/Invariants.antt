@@ -1,6 +1,6 @@
 use Rattle.std.proofs.Common.{◌+◌, ◌<◌, ◌≡◌, All, length, false, vec_capacity}
 use Rattle.std.specs.VecDeque.{deque_capacity}
-use Rattle.region_run.specs.Running.{pending_of, rest_of, trips_of, HoldsTogether, is_first_finished}
+use Rattle.region_run.specs.Running.{pending_of, rest_of, HoldsTogether, is_first_finished}
 use Rattle.region_run.proofs.running.Running.begin.Given as goal
 
 abbrev pub invariant-loop-row : goal.invariant-loop-row
