@@ -6,8 +6,9 @@ use Rattle.f77_ast.specs.declared.expr.Expr.{Expr}
 use Rattle.f77_ast.specs.declared.expr.Ref.{Ref}
 use Rattle.f77_structure.specs.Values.{Value}
 use Rattle.f77_meaning.specs.Assign.{Accumulation, Written, accumulate, accumulated, accumulation_of, plainly, written_by, written_of}
-use Rattle.f77_meaning.specs.Demand.{Demand, gives, wants, calls, fails, and_then, Evaluation, Located, Setting, demand_of, location_of, number_of}
-use Rattle.f77_meaning.proofs.Demands.{demand_asks, given, location_asks}
+use Rattle.f77_meaning.specs.Demand.{Demand, gives, wants, calls, fails, and_then, Evaluation, Located, Setting, demand_of, location_of, number_of, written_at}
+use Rattle.f77_meaning.specs.Process.{Binding, placed, valued, unvalued}
+use Rattle.f77_meaning.proofs.Demands.{demand_asks, given, location_asks, written_asks}
 use Rattle.f77_meaning.proofs.Evaluations.{AsksInTurn, extends, leaves_none, then_asks, unmarked, uses_up}
 use Rattle.f77_meaning.proofs.Held.{Combines, IfAccumulates, IsHeld, accumulates}
 
@@ -25,26 +26,44 @@ pub record Accumulates (d : List ℤ → Demand Written) : Type 0 where
   -- without an answer there is no marked write
   pub fresh : (rest : List ℤ) (w : Written) (op : RedOp) → d [] ≡ gives w rest → w.by ≡ Some op → ⊥
 
--- the address that is read last is the one that is written
-last_read : (op : RedOp) (address : ℕ) (f : ℤ → ℤ) (rest : List ℤ) (a : ℕ) (m : Option RedOp) → accumulate op address f rest ≡ wants a m → (rest ≡ []) × ((address ≡ a) × (Some op ≡ m))
-last_read op address f [] a m e = let c : wants address (Some op) ≡ wants a m = e in (refl, (cc, cc))
-last_read op address f (v ∷ rest) a m e = let c : gives (record { address = address; value = f v; by = Some op }) rest ≡ wants a m = e in absurd (cc)
+-- the last read: all answers are used up, it has the mark, and with an answer more its address is written
+record LastRead (op : RedOp) (bound : Binding) (f : ℤ → ℤ) (rest : List ℤ) (a : ℕ) (m : Option RedOp) : Type 0 where
+  none : rest ≡ []
+  mark : Some op ≡ m
+  writes : (x : ℤ) → accumulate op bound f (x ∷ []) ≡ gives (record { address = a; value = f x; by = Some op }) []
+
+last_read : (op : RedOp) (bound : Binding) (f : ℤ → ℤ) (rest : List ℤ) (a : ℕ) (m : Option RedOp) → accumulate op bound f rest ≡ wants a m → LastRead op bound f rest a m
+last_read op (placed address region length) f [] a m e =
+    let c : wants address (Some op) ≡ wants a m = e in
+    let same : address ≡ a = cc in
+    record { none = refl; mark = cc; writes = λ x i. gives (record { address = same i; value = f x; by = Some op }) [] }
+last_read op (placed address region length) f (v ∷ rest) a m e = absurd (cc)
+last_read op (valued value) f rest a m e = absurd (cc)
+last_read op (unvalued length) f rest a m e = absurd (cc)
+
+-- without an answer nothing is written
+no_answer : (op : RedOp) (bound : Binding) (f : ℤ → ℤ) (more rest : List ℤ) (w : Written) → accumulate op bound f more ≡ gives w rest → more ≡ [] → ⊥
+no_answer op (placed address region length) f [] rest w e n = absurd (cc)
+no_answer op (placed address region length) f (v ∷ more) rest w e n = absurd (cc)
+no_answer op (valued value) f more rest w e n = absurd (cc)
+no_answer op (unvalued length) f more rest w e n = absurd (cc)
 
 module _ (place : Located) (a : Accumulation) (held : IsHeld a.op a.held) where
   marked : (answers : List ℤ) (address : ℕ) (op : RedOp) → accumulated place a answers ≡ wants address (Some op) → Combined (accumulated place a) answers address op
   marked answers address op e = by (a.held answers) refl e
     where
-      by : (d : Demand (ℤ → ℤ)) → a.held answers ≡ d → and_then d (λ value rest. accumulate a.op place.address value rest) ≡ wants address (Some op) → Combined (accumulated place a) answers address op
+      by : (d : Demand (ℤ → ℤ)) → a.held answers ≡ d → and_then d (λ value rest. accumulate a.op place.bound value rest) ≡ wants address (Some op) → Combined (accumulated place a) answers address op
       by (gives f rest) g e =
-          let l : (rest ≡ []) × ((place.address ≡ address) × (Some a.op ≡ Some op)) = last_read a.op place.address f rest address (Some op) e in
+          let l : LastRead a.op place.bound f rest address (Some op) = last_read a.op place.bound f rest address (Some op) e in
           let c : Combines a.op f = held.combines answers rest f g in
-          let none : a.held answers ≡ gives f [] = g ∙ ap (gives f) l.0 in
-          let same : a.op ≡ op = let m : Some a.op ≡ Some op = l.1.1 in cc in
+          let none : a.held answers ≡ gives f [] = g ∙ ap (gives f) l.none in
+          let same : a.op ≡ op = let m : Some a.op ≡ Some op = l.mark in cc in
           record {
             added = c.added;
             writes = λ x.
-                ap (λ d. and_then d (λ value rest. accumulate a.op place.address value rest)) (extends a.held answers [] (x ∷ []) f held.asks none)
-                ∙ (λ i. gives (record { address = l.1.0 i; value = c.is x i; by = Some a.op }) [])
+                ap (λ d. and_then d (λ value rest. accumulate a.op place.bound value rest)) (extends a.held answers [] (x ∷ []) f held.asks none)
+                ∙ l.writes x
+                ∙ (λ i. gives (record { address = address; value = c.is x i; by = Some a.op }) [])
                 ∙ (λ i. gives (record { address = address; value = apply (same i) x c.added; by = Some (same i) }) []);
           }
       by (wants b m) g e =
@@ -57,18 +76,14 @@ module _ (place : Located) (a : Accumulation) (held : IsHeld a.op a.held) where
   written_last : (answers rest : List ℤ) (address : ℕ) (x : ℤ) (w : Written) → accumulated place a answers ≡ wants address None → accumulated place a (answers ++ x ∷ []) ≡ gives w rest → ⊥
   written_last answers rest address x w e g = by (a.held answers) refl e
     where
-      nothing_left : (f : ℤ → ℤ) (more : List ℤ) → accumulate a.op place.address f more ≡ gives w rest → more ≡ [] → ⊥
-      nothing_left f [] e n = absurd (cc)
-      nothing_left f (v ∷ more) e n = absurd (cc)
-
-      later : (b : ℕ) (m : Option RedOp) → a.held answers ≡ wants b m → (d : Demand (ℤ → ℤ)) → a.held (answers ++ x ∷ []) ≡ d → and_then d (λ value more. accumulate a.op place.address value more) ≡ gives w rest → ⊥
-      later b m h (gives f more) k e = nothing_left f more e (uses_up a.held answers more b m x f held.asks h k)
+      later : (b : ℕ) (m : Option RedOp) → a.held answers ≡ wants b m → (d : Demand (ℤ → ℤ)) → a.held (answers ++ x ∷ []) ≡ d → and_then d (λ value more. accumulate a.op place.bound value more) ≡ gives w rest → ⊥
+      later b m h (gives f more) k e = no_answer a.op place.bound f more rest w e (uses_up a.held answers more b m x f held.asks h k)
       later b m h (wants c n) k e = absurd (cc)
       later b m h (calls u c) k e = absurd (cc)
       later b m h (fails y) k e = absurd (cc)
 
-      by : (d : Demand (ℤ → ℤ)) → a.held answers ≡ d → and_then d (λ value more. accumulate a.op place.address value more) ≡ wants address None → ⊥
-      by (gives f more) h e = let l : (more ≡ []) × ((place.address ≡ address) × (Some a.op ≡ None)) = last_read a.op place.address f more address None e in absurd (let m : Some a.op ≡ None = l.1.1 in cc)
+      by : (d : Demand (ℤ → ℤ)) → a.held answers ≡ d → and_then d (λ value more. accumulate a.op place.bound value more) ≡ wants address None → ⊥
+      by (gives f more) h e = let l : LastRead a.op place.bound f more address None = last_read a.op place.bound f more address None e in absurd (let m : Some a.op ≡ None = l.mark in cc)
       by (wants b m) h e = later b m h (a.held (answers ++ x ∷ [])) refl g
       by (calls u b) h e = absurd (cc)
       by (fails y) h e = absurd (cc)
@@ -76,12 +91,8 @@ module _ (place : Located) (a : Accumulation) (held : IsHeld a.op a.held) where
   never_at_once : (rest : List ℤ) (w : Written) → accumulated place a [] ≡ gives w rest → ⊥
   never_at_once rest w e = by (a.held []) refl e
     where
-      none_left : (f : ℤ → ℤ) (more : List ℤ) → more ≡ [] → accumulate a.op place.address f more ≡ gives w rest → ⊥
-      none_left f [] n e = absurd (cc)
-      none_left f (v ∷ more) n e = absurd (cc)
-
-      by : (d : Demand (ℤ → ℤ)) → a.held [] ≡ d → and_then d (λ value more. accumulate a.op place.address value more) ≡ gives w rest → ⊥
-      by (gives f more) h e = none_left f more (leaves_none a.held more f held.asks h) e
+      by : (d : Demand (ℤ → ℤ)) → a.held [] ≡ d → and_then d (λ value more. accumulate a.op place.bound value more) ≡ gives w rest → ⊥
+      by (gives f more) h e = no_answer a.op place.bound f more rest w e (leaves_none a.held more f held.asks h)
       by (wants b m) h e = absurd (cc)
       by (calls u b) h e = absurd (cc)
       by (fails y) h e = absurd (cc)
@@ -95,13 +106,21 @@ module _ (place : Located) (a : Accumulation) (held : IsHeld a.op a.held) where
 
 -- an assignment that is no accumulation asks in turn, and writes without a mark
 plain_asks : (place : Located) (value : Evaluation) → AsksInTurn Value value → AsksInTurn Written (plainly place value)
-plain_asks place value h = then_asks value (λ v rest. gives (record { address = place.address; value = number_of v; by = None }) rest) h (λ v. given (record { address = place.address; value = number_of v; by = None }))
+plain_asks place value h =
+    then_asks value (λ v rest. and_then (written_at place.bound rest) (λ address more. gives (record { address = address; value = number_of v; by = None }) more)) h
+    (λ v. then_asks (written_at place.bound) (λ address more. gives (record { address = address; value = number_of v; by = None }) more) (written_asks place.bound) (λ address. given (record { address = address; value = number_of v; by = None })))
 
 plain_write : (place : Located) (value : Evaluation) (answers rest : List ℤ) (w : Written) → plainly place value answers ≡ gives w rest → w.by ≡ None
 plain_write place value answers rest w e = by (value answers) e
   where
-    by : (d : Demand Value) → and_then d (λ v more. gives (record { address = place.address; value = number_of v; by = None }) more) ≡ gives w rest → w.by ≡ None
-    by (gives v more) e = let same : record { address = place.address; value = number_of v; by = None } ≡ w = cc in ap (λ x. x.by) (sym same)
+    then : (v : Value) (d : Demand ℕ) → and_then d (λ address more. gives (record { address = address; value = number_of v; by = None }) more) ≡ gives w rest → w.by ≡ None
+    then v (gives address more) e = let same : record { address = address; value = number_of v; by = None } ≡ w = cc in ap (λ x. x.by) (sym same)
+    then v (wants b m) e = absurd (cc)
+    then v (calls u b) e = absurd (cc)
+    then v (fails y) e = absurd (cc)
+
+    by : (d : Demand Value) → and_then d (λ v more. and_then (written_at place.bound more) (λ address left. gives (record { address = address; value = number_of v; by = None }) left)) ≡ gives w rest → w.by ≡ None
+    by (gives v more) e = then v (written_at place.bound more) e
     by (wants b m) e = absurd (cc)
     by (calls u b) e = absurd (cc)
     by (fails y) e = absurd (cc)

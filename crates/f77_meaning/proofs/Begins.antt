@@ -5,9 +5,10 @@ use Rattle.f77_ast.specs.declared.program.Entity.{Entity}
 use Rattle.f77_ast.specs.declared.fault.Fault.TheVariants.{ZeroIncrement, DoRange}
 use Rattle.f77_ast.specs.declared.specification.Bound.{Bound}
 use Rattle.f77_ast.specs.declared.stmt.LoopControl.{LoopControl}
-use Rattle.f77_structure.specs.Storage.{IsStorage, LiesIn, is_scalar, start_of, storage_units_of, storage_units_by}
-use Rattle.f77_meaning.specs.Demand.{Demand, gives, wants, calls, fails, and_then, located, place_by, Setting}
-use Rattle.f77_meaning.specs.Do.{Begun, Parameters, begun_of, begun_with, parameters_of, is_in_range, is_zero, count_of, has_64_bits, value_after}
+use Rattle.f77_structure.specs.Storage.{IsStorage, LiesIn, is_scalar, region_at, start_of, storage_units_of, storage_units_by}
+use Rattle.f77_meaning.specs.Demand.{Demand, gives, wants, calls, fails, and_then, located, place_by, Setting, written_at}
+use Rattle.f77_meaning.specs.Do.{Begun, Parameters, begun_at, begun_of, begun_with, parameters_of, is_in_range, is_zero, count_of, has_64_bits, value_after}
+use Rattle.f77_meaning.specs.Process.{placed}
 use Rattle.f77_meaning.proofs.Frames.{Begins}
 
 -- what is found is one of the list
@@ -36,12 +37,12 @@ one_unit entity e = by entity.bounds e
     by [] h = refl
     by (b ∷ bounds) h = absurd (cc)
 
--- the numbers with which a DO statement begins
-begun_numbers : (total variable : ℕ) (m : Parameters) (left rest : List ℤ) (begun : Begun) → variable < total → begun_with variable m left ≡ gives begun rest → Begins total begun
-begun_numbers total variable m left rest begun within e = by (is_zero m.increment) (is_in_range m) refl e
+-- the numbers with which a DO statement begins whose variable is in storage
+begun_numbers : (total variable region length : ℕ) (m : Parameters) (left rest : List ℤ) (begun : Begun) → variable < total → begun_with (placed variable region length) m left ≡ gives begun rest → Begins total begun
+begun_numbers total variable region length m left rest begun within e = by (is_zero m.increment) (is_in_range m) refl e
   where
     new : Begun
-    new = record { variable = variable; first = m.first; increment = m.increment; count = count_of m }
+    new = begun_at m variable
 
     small : has_64_bits (pos (count_of m)) ≡ true → count_of m < 2 ^ 63
     small h = grind (arith, h)
@@ -55,21 +56,21 @@ begun_numbers total variable m left rest begun within e = by (is_zero m.incremen
         subst (Begins total) same (record { count = small tests.0; end = tests.1; variable = within })
 
 -- the same of what a DO statement evaluates to
-pub begins_of : (s : Setting) (control : LoopControl) (answers rest : List ℤ) (begun : Begun) → IsStorage s.layout → begun_of s control answers ≡ gives begun rest → Begins (length s.layout.first) begun
+pub begins_of : (s : Setting) (control : LoopControl) (answers rest : List ℤ) (begun : Begun) → IsStorage s.program.layout → begun_of s control answers ≡ gives begun rest → Begins (length s.program.layout.first) begun
 begins_of s control answers rest begun storage e = by (parameters_of s control answers) e
   where
-    variable_by : (m : Parameters) (left : List ℤ) (entity : Entity) → entity_in s.layout.entities s.unit control.variable ≡ Some entity → (b : Bool) → is_scalar entity.bounds ≡ b → and_then (place_by entity (cond b (Some (start_of entity)) None) left) (λ variable more. begun_with variable.address m more) ≡ gives begun rest → Begins (length s.layout.first) begun
+    variable_by : (m : Parameters) (left : List ℤ) (entity : Entity) → entity_in s.program.layout.entities s.unit control.variable ≡ Some entity → (b : Bool) → is_scalar entity.bounds ≡ b → and_then (place_by s entity (cond b (Some (start_of entity)) None) left) (λ variable more. begun_with variable.bound m more) ≡ gives begun rest → Begins (length s.program.layout.first) begun
     variable_by m left entity h true scalar e =
-        let lies : LiesIn (length s.layout.first) entity = entity_lies (length s.layout.first) s.layout.entities s.unit control.variable entity storage.lie h in
-        begun_numbers (length s.layout.first) (start_of entity) m left rest begun (omega (arith, lies.within, one_unit entity scalar)) e
+        let lies : LiesIn (length s.program.layout.first) entity = entity_lies (length s.program.layout.first) s.program.layout.entities s.unit control.variable entity storage.lie h in
+        begun_numbers (length s.program.layout.first) (start_of entity) (region_at s.program.layout.regions (start_of entity)) entity.len m left rest begun (omega (arith, lies.within, one_unit entity scalar)) e
     variable_by m left entity h false scalar e = absurd (cc)
 
-    entity_by : (m : Parameters) (left : List ℤ) (o : Option Entity) → entity_in s.layout.entities s.unit control.variable ≡ o → and_then (located o None left) (λ variable more. begun_with variable.address m more) ≡ gives begun rest → Begins (length s.layout.first) begun
+    entity_by : (m : Parameters) (left : List ℤ) (o : Option Entity) → entity_in s.program.layout.entities s.unit control.variable ≡ o → and_then (located s o None left) (λ variable more. begun_with variable.bound m more) ≡ gives begun rest → Begins (length s.program.layout.first) begun
     entity_by m left None h e = absurd (cc)
     entity_by m left (Some entity) h e = variable_by m left entity h (is_scalar entity.bounds) refl e
 
-    by : (d : Demand Parameters) → and_then d (λ m left. and_then (located (entity_in s.layout.entities s.unit control.variable) None left) (λ variable more. begun_with variable.address m more)) ≡ gives begun rest → Begins (length s.layout.first) begun
-    by (gives m left) e = entity_by m left (entity_in s.layout.entities s.unit control.variable) refl e
+    by : (d : Demand Parameters) → and_then d (λ m left. and_then (located s (entity_in s.program.layout.entities s.unit control.variable) None left) (λ variable more. begun_with variable.bound m more)) ≡ gives begun rest → Begins (length s.program.layout.first) begun
+    by (gives m left) e = entity_by m left (entity_in s.program.layout.entities s.unit control.variable) refl e
     by (wants address op) e = absurd (cc)
     by (calls unit bindings) e = absurd (cc)
     by (fails fault) e = absurd (cc)

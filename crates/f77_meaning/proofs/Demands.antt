@@ -12,7 +12,10 @@ use Rattle.f77_ast.specs.declared.fault.Fault.TheVariants.{Subscript}
 use Rattle.f77_ast.specs.declared.program.Entity.{Entity}
 use Rattle.f77_structure.specs.Storage.{address_of_variable, address_of_element}
 use Rattle.f77_structure.specs.Values.{Value, integer, truth, chars, Operated, yields, breaks, means_nothing, unary_of, binary_of, value_of_units}
-use Rattle.f77_meaning.specs.Demand.{gives, and_then, Evaluation, Located, Location, Setting, operated, cell_value, cells_from, demand_of, expr_step, located, location_of, number_demand, number_of, part_step, place_by, place_of, ref_step, value_at, width}
+use Rattle.f77_ast.specs.declared.expr.Kind.{Kind}
+use Rattle.f77_ast.specs.declared.fault.Fault.TheVariants.{ValueDummyAssigned}
+use Rattle.f77_meaning.specs.Demand.{gives, and_then, Evaluation, Located, Location, Setting, operated, cell_value, cells_from, demand_of, expr_step, located, location_of, number_demand, number_of, part_step, place_by, place_of, ref_step, value_at, value_of_bound, width, written_at}
+use Rattle.f77_meaning.specs.Process.{Binding, placed, valued, unvalued}
 use Rattle.f77_meaning.proofs.Evaluations.{AsksInTurn, settles, looks, then_asks}
 use Rattle.f77_meaning.proofs.Evaluations as turn
 
@@ -29,17 +32,28 @@ cells_ask address (suc count) =
     then_asks (cell_value address) (λ first rest. and_then (cells_from (address + 1) count rest) (λ others more. gives (first ∷ others) more)) (cell_asks address)
     (λ first. then_asks (cells_from (address + 1) count) (λ others more. gives (first ∷ others) more) (cells_ask (address + 1) count) (λ others. given (first ∷ others)))
 
+bound_asks : (kind : Kind) (bound : Binding) → AsksInTurn Value (value_of_bound kind bound)
+bound_asks kind (placed address region length) = then_asks (cells_from address (width kind length)) (λ cells rest. gives (value_of_units kind cells) rest) (cells_ask address (width kind length)) (λ cells. given (value_of_units kind cells))
+bound_asks kind (valued value) = given value
+bound_asks kind (unvalued length) = given (integer (pos 0))
+
 value_asks : (place : Located) → AsksInTurn Value (value_at place)
-value_asks place = then_asks (cells_from place.address (width place.kind place.len)) (λ cells rest. gives (value_of_units place.kind cells) rest) (cells_ask place.address (width place.kind place.len)) (λ cells. given (value_of_units place.kind cells))
+value_asks place = bound_asks place.kind place.bound
+
+-- where it is written
+pub written_asks : (bound : Binding) → AsksInTurn ℕ (written_at bound)
+written_asks (placed address region length) = given address
+written_asks (valued value) = turn.breaks (written_at (valued value)) ValueDummyAssigned (λ answers. refl)
+written_asks (unvalued length) = turn.breaks (written_at (unvalued length)) ValueDummyAssigned (λ answers. refl)
 
 operator_asks : (o : Operated) → AsksInTurn Value (operated o)
 operator_asks (yields value) = given value
 operator_asks (breaks fault) = turn.breaks (operated (breaks fault)) fault (λ answers. refl)
 operator_asks means_nothing = given (integer (pos 0))
 
-place_asks : (entity : Entity) (address : Option ℕ) → AsksInTurn Located (place_by entity address)
-place_asks entity (Some address) = given (place_of entity address)
-place_asks entity None = turn.breaks (place_by entity None) Subscript (λ answers. refl)
+place_asks : (s : Setting) (entity : Entity) (address : Option ℕ) → AsksInTurn Located (place_by s entity address)
+place_asks s entity (Some address) = given (place_of s entity address)
+place_asks s entity None = turn.breaks (place_by s entity None) Subscript (λ answers. refl)
 
 -- the one subscript of a list, where there is one, asks in turn
 abbrev pub SubscriptAsks : Option (List Evaluation) → Type 0
@@ -48,13 +62,13 @@ SubscriptAsks (Some []) = Unit {0}
 SubscriptAsks (Some (subscript ∷ [])) = AsksInTurn Value subscript
 SubscriptAsks (Some (subscript ∷ second ∷ others)) = Unit {0}
 
-pub located_asks : (found : Option Entity) (args : Option (List Evaluation)) → SubscriptAsks args → AsksInTurn Located (located found args)
-located_asks None args all = turn.breaks (located None args) Subscript (λ answers. refl)
-located_asks (Some entity) None all = place_asks entity (address_of_variable entity)
-located_asks (Some entity) (Some []) all = turn.breaks (located (Some entity) (Some [])) Subscript (λ answers. refl)
-located_asks (Some entity) (Some (subscript ∷ [])) all =
-    then_asks subscript (λ s rest. place_by entity (address_of_element entity (number_of s)) rest) all (λ s. place_asks entity (address_of_element entity (number_of s)))
-located_asks (Some entity) (Some (subscript ∷ second ∷ others)) all = turn.breaks (located (Some entity) (Some (subscript ∷ second ∷ others))) Subscript (λ answers. refl)
+pub located_asks : (s : Setting) (found : Option Entity) (args : Option (List Evaluation)) → SubscriptAsks args → AsksInTurn Located (located s found args)
+located_asks s None args all = turn.breaks (located s None args) Subscript (λ answers. refl)
+located_asks s (Some entity) None all = place_asks s entity (address_of_variable entity)
+located_asks s (Some entity) (Some []) all = turn.breaks (located s (Some entity) (Some [])) Subscript (λ answers. refl)
+located_asks s (Some entity) (Some (subscript ∷ [])) all =
+    then_asks subscript (λ value rest. place_by s entity (address_of_element entity (number_of value)) rest) all (λ value. place_asks s entity (address_of_element entity (number_of value)))
+located_asks s (Some entity) (Some (subscript ∷ second ∷ others)) all = turn.breaks (located s (Some entity) (Some (subscript ∷ second ∷ others))) Subscript (λ answers. refl)
 
 module _ (s : Setting) where
   -- an expression, and a reference, with the proof that it asks in turn
@@ -102,10 +116,10 @@ module _ (s : Setting) where
   expr_layer (layer.Paren x) = of_layer (layer.Paren x.0) x.1
 
   ref_by : (y : Ref-F SomeExpr SomePart SomeRef) (args : Option (List SomeExpr)) → AsksInTurn Located (ref_step s (map-Ref Expr Part Ref Evaluation (Unit {0}) Location (demand_of s) (λ p. tt) (location_of s) (plain_ref (record y { args = args }))))
-  ref_by y None = located_asks (entity_in s.layout.entities s.unit y.name) None tt
-  ref_by y (Some []) = located_asks (entity_in s.layout.entities s.unit y.name) (Some []) tt
-  ref_by y (Some (x ∷ [])) = located_asks (entity_in s.layout.entities s.unit y.name) (Some (demand_of s x.0 ∷ [])) x.1
-  ref_by y (Some (x ∷ z ∷ others)) = located_asks (entity_in s.layout.entities s.unit y.name) (Some (demand_of s x.0 ∷ demand_of s z.0 ∷ _)) tt
+  ref_by y None = located_asks s (entity_in s.program.layout.entities s.unit y.name) None tt
+  ref_by y (Some []) = located_asks s (entity_in s.program.layout.entities s.unit y.name) (Some []) tt
+  ref_by y (Some (x ∷ [])) = located_asks s (entity_in s.program.layout.entities s.unit y.name) (Some (demand_of s x.0 ∷ [])) x.1
+  ref_by y (Some (x ∷ z ∷ others)) = located_asks s (entity_in s.program.layout.entities s.unit y.name) (Some (demand_of s x.0 ∷ demand_of s z.0 ∷ _)) tt
 
   ref_layer : (y : Ref-F SomeExpr SomePart SomeRef) → RefAsks (roll-Ref (plain_ref y))
   ref_layer y = of_ref_layer (plain_ref y) (ref_by y y.args)

@@ -6,9 +6,10 @@ use Rattle.f77_ast.specs.declared.program.Loop.{Loop}
 use Rattle.f77_ast.specs.declared.program.Program.{Program}
 use Rattle.f77_structure.specs.Loops.{loop_with_range_from}
 use Rattle.f77_structure.specs.Ranges.{HasRange, IsDo, RangesNest, terminal_at}
-use Rattle.f77_structure.specs.Units.{statement_number, listing_of, EndsWithEnd}
+use Rattle.f77_structure.specs.Statements.{is_executable}
+use Rattle.f77_structure.specs.Units.{statement_number, listing_of, EndsWithEnd, ExecutablesFollow, executes}
 use Rattle.f77_structure.proofs.Loops.{range_of_loop}
-use Rattle.f77_structure.proofs.UnitLemmas.{goes_on, terminal_goes_on, after_in, of_unit, stands_before}
+use Rattle.f77_structure.proofs.UnitLemmas.{goes_on, terminal_goes_on, after_in, of_unit, stands_before, do_executes, next_executes, terminal_executes}
 use Rattle.f77_meaning.specs.Do.{Begun, active_from, has_64_bits, turned, value_after}
 use Rattle.f77_meaning.specs.Process.{ActiveLoop, Frame, at_statement, at_increment, come_to}
 use Rattle.f77_meaning.specs.Sound.{AreActive, NumbersFit, IsActive, IsFrame, IsSound}
@@ -45,16 +46,22 @@ one_further program u at (loop ∷ outer) a e =
     less : (a b : ℕ) → b ≤ a → a ≢ b → b + 1 ≤ a
     less a b h n = grind (arith, h, n)
 
--- after a statement that isn't END, in the range of each active loop, a frame is one of the program
-pub past_is_frame : (program : Program) (frame : Frame) (at : ℕ) (active : List ActiveLoop) (listed : Listed) → IsSound program → slice_get (listing_of program.units frame.unit) at ≡ Some listed → goes_on listed.stmt → AreActive program frame.unit at at active → IsFrame program (past at active frame)
-past_is_frame program frame at active listed sound here goes actives = by (is_terminal at active) refl
+-- after an executable statement that isn't END, in the range of each active loop, a frame is one of the program
+pub past_is_frame : (program : Program) (frame : Frame) (at : ℕ) (active : List ActiveLoop) (listed : Listed) → IsSound program → slice_get (listing_of program.units frame.unit) at ≡ Some listed → goes_on listed.stmt → is_executable listed.stmt ≡ true → AreActive program frame.unit at at active → IsFrame program (past at active frame)
+past_is_frame program frame at active listed sound here goes runs actives = by (is_terminal at active) refl
   where
     ended : EndsWithEnd (listing_of program.units frame.unit)
     ended = of_unit EndsWithEnd program.units frame.unit at listed sound.ended here
 
+    ordered : ExecutablesFollow (listing_of program.units frame.unit)
+    ordered = of_unit ExecutablesFollow program.units frame.unit at listed sound.ordered here
+
+    after : IsSome (slice_get (listing_of program.units frame.unit) (at + 1))
+    after = after_in (listing_of program.units frame.unit) listed at ended here goes
+
     by : (b : Bool) → is_terminal at active ≡ b → IsFrame program (cond b (come_to at at_increment active frame) (come_to (at + 1) at_statement active frame))
     by true e = record { stands = is_some (slice_get (listing_of program.units frame.unit) at) listed here; active = actives; stage = e }
-    by false e = record { stands = after_in (listing_of program.units frame.unit) listed at ended here goes; active = one_further program frame.unit at active actives e; stage = tt }
+    by false e = record { stands = after; active = one_further program frame.unit at active actives e; stage = next_executes (listing_of program.units frame.unit) at listed ordered here runs after }
 
 -- after the incrementation processing of the innermost active loop a frame is one of the program
 pub past_increment_is_frame : (program : Program) (frame : Frame) (active : List ActiveLoop) → IsSound program → IsSome (slice_get (listing_of program.units frame.unit) frame.at) → AreActive program frame.unit frame.at frame.at active → IsTrue (is_terminal frame.at active) → IsFrame program (past_increment active frame)
@@ -88,6 +95,12 @@ past_increment_is_frame program frame (loop ∷ outer) sound stands actives e = 
     inside : loop.from - 1 ≤ at
     inside = omega (arith, a.above)
 
+    ordered : ExecutablesFollow listing
+    ordered = of_unit ExecutablesFollow program.units u a.at a.begins.listed sound.ordered a.begins.stands
+
+    there : IsSome (slice_get listing loop.from)
+    there = stands_before listing loop.from at a.above stands
+
     again : (suc loop.done < loop.count) → NumbersFit (length program.layout.first) (turned loop)
     again h = record { left = h; count = a.numbers.count; end = a.numbers.end; variable = a.numbers.variable }
 
@@ -97,12 +110,12 @@ past_increment_is_frame program frame (loop ∷ outer) sound stands actives e = 
     by : (b : Bool) → nat_lt (suc loop.done) loop.count ≡ b → IsFrame program (cond b (come_to loop.from at_statement (turned loop ∷ outer) frame) (past at outer frame))
     by true h =
         record {
-          stands = stands_before listing loop.from at a.above stands;
+          stands = there;
           active = (record { at = a.at; label = a.label; begins = a.begins; its = a.its; found = a.found; ordinal = a.ordinal; from = a.from; last = a.last; above = omega arith; below = omega (arith, a.above, here); numbers = again (less (suc loop.done) loop.count h) }, actives.1);
-          stage = tt;
+          stage = subst (λ n. executes (slice_get listing n) ≡ true) (sym a.from) (next_executes listing a.at a.begins.listed ordered a.begins.stands (do_executes a.begins.listed.stmt a.label a.begins.names) (subst (λ n. IsSome (slice_get listing n)) a.from there));
         }
     by false h =
-        past_is_frame program frame at outer range.terminal sound terminal (terminal_goes_on range.terminal.stmt range.ends)
+        past_is_frame program frame at outer range.terminal sound terminal (terminal_goes_on range.terminal.stmt range.ends) (terminal_executes range.terminal.stmt range.ends)
         (narrower program u (loop.from - 1) loop.last at at outer actives.1 inside (omega (arith, here)))
 
 -- the numbers with which a loop becomes active
@@ -133,11 +146,17 @@ past_do_is_frame program frame label loop begun sound begins_here found begins a
     range : HasRange listing at label
     range = nested.ended at label begins_here
 
+    ordered : ExecutablesFollow listing
+    ordered = of_unit ExecutablesFollow program.units u at begins_here.listed sound.ordered begins_here.stands
+
     last : new.last ≡ terminal_at listing at label
     last = ap (λ d. at + 1 + d) (range_of_loop program.units u at label loop begins_here (subst (λ loops. loop_with_range_from loops (statement_number program.units u at + 1) ≡ Some loop) sound.loops found))
 
     terminal : slice_get listing new.last ≡ Some range.terminal
     terminal = subst (λ n. slice_get listing n ≡ Some range.terminal) (sym last) range.stands
+
+    there : IsSome (slice_get listing new.from)
+    there = stands_before listing new.from new.last (omega arith) (is_some (slice_get listing new.last) range.terminal terminal)
 
     -- the range lies in that of the innermost active loop
     outer : (others : List ActiveLoop) → AreActive program u at at others → AreActive program u at new.last others
@@ -151,11 +170,11 @@ past_do_is_frame program frame label loop begun sound begins_here found begins a
 
     by : (b : Bool) → (begun.count == 0) ≡ b → IsFrame program (cond b (past new.last frame.active frame) (come_to new.from at_statement (new ∷ frame.active) frame))
     by true h =
-        past_is_frame program frame new.last frame.active range.terminal sound terminal (terminal_goes_on range.terminal.stmt range.ends)
+        past_is_frame program frame new.last frame.active range.terminal sound terminal (terminal_goes_on range.terminal.stmt range.ends) (terminal_executes range.terminal.stmt range.ends)
         (narrower program u at new.last new.last new.last frame.active (outer frame.active actives) (omega arith) (omega arith))
     by false h =
         record {
-          stands = stands_before listing new.from new.last (omega arith) (is_some (slice_get listing new.last) range.terminal terminal);
+          stands = there;
           active = (
             record {
               at = at;
@@ -172,5 +191,5 @@ past_do_is_frame program frame label loop begun sound begins_here found begins a
             },
             narrower program u at new.last (new.from - 1) new.last frame.active (outer frame.active actives) (omega arith) (omega arith),
           );
-          stage = tt;
+          stage = next_executes listing at begins_here.listed ordered begins_here.stands (do_executes begins_here.listed.stmt label begins_here.names) there;
         }

@@ -7,5 +7,4 @@ pub mod Held
 pub mod Marks
 pub mod Runs
 pub mod Short
-pub mod Sound
 pub mod Stands

@@ -1,5 +1,5 @@
 -- The marks of accumulations, over the steps of a process.
-use Rattle.std.proofs.Common.{◌≡◌, ◌⊎◌, inl, inr, ℕ, ◌+◌, ℤ, pos, Bool, true, false, cond, List, [], ◌∷◌, ◌++◌, drop, Option, None, Some, refl, sym, ap, subst, ◌∙◌}
+use Rattle.std.proofs.Common.{◌≡◌, ◌⊎◌, inl, inr, ℕ, suc, ◌+◌, ℤ, pos, Bool, true, false, cond, List, [], ◌∷◌, ◌++◌, drop, Option, None, Some, refl, sym, ap, subst, ◌∙◌}
 use Rattle.std.specs.Prelude.{nat_lt}
 use Rattle.hyb_base.specs.Reduction.{apply}
 use Rattle.hyb_base.specs.declared.ops.RedOp.{RedOp}
@@ -19,37 +19,50 @@ use Rattle.f77_ast.specs.declared.stmt.LoopControl.{LoopControl}
 use Rattle.f77_ast.specs.declared.stmt.Stmt.{Stmt, Assign, Do, Print}
 use Rattle.f77_structure.specs.Arrays.{array_named}
 use Rattle.f77_structure.specs.Storage.{start_of, storage_units_of}
+use Rattle.f77_structure.specs.Units.{statement_at}
 use Rattle.f77_structure.specs.Values.{Value, value_of_units}
 use Rattle.f77_meaning.specs.Assign.{Written, written_of}
-use Rattle.f77_meaning.specs.Demand.{Demand, gives, wants, calls, fails, and_then, Setting, demand_of, located, number_demand, setting_of}
-use Rattle.f77_meaning.specs.Do.{Begun, Parameters, active_from, begun_of, begun_with, count_of, increment_of, is_in_range, is_zero, parameters_of}
+use Rattle.f77_meaning.specs.Demand.{Demand, gives, wants, calls, fails, and_then, Setting, demand_of, located, number_demand, setting_of, written_at}
+use Rattle.f77_meaning.specs.Do.{Begun, Parameters, active_from, begun_at, begun_of, begun_with, count_of, increment_of, is_in_range, is_zero, parameters_of}
 use Rattle.f77_meaning.specs.Event.{reads, writes, faults}
 use Rattle.f77_meaning.specs.Laws.{CombinesWith, AccumulationsCombine, PlainReadsLeadToNone, FreshFramesWriteNone}
 use Rattle.f77_meaning.specs.Print.{Printed, Printing, asks, enters, whole, stops, after_array_or_value, after_elements, after_item, after_items, after_value, ask_element, next_cell, next_item, printed_of, text_of, with_text, within_limit}
-use Rattle.f77_meaning.specs.Process.{ActiveLoop, Frame, Process, Stage, at_statement, at_inner, at_entry, at_increment, is_blocked, listed_of, with_answer, with_done}
-use Rattle.f77_meaning.specs.Step.{Move, reading, writing, do_move, done_by, event, event_of, increment_move, listed_move, loop_of_do, once_done, past_do, past_statement, print_move, process_with, resumed, resumed_by, stage_move, statement_move, unless_blocked, write_move}
+use Rattle.f77_meaning.specs.Process.{ActiveLoop, Binding, Frame, Process, Stage, at_statement, at_inner, at_entry, at_increment, is_blocked, listed_of, process_with, with_answer, with_done}
+use Rattle.f77_meaning.specs.Step.{Move, reading, writing, do_move, done_by, event, event_of, increment_move, listed_move, loop_of_do, once_done, past_do, past_statement, print_move, resumed, resumed_by, stage_move, statement_move, unless_blocked, write_move}
 use Rattle.f77_meaning.proofs.Accumulations.{Combined, written_accumulates}
-use Rattle.f77_meaning.proofs.Demands.{demand_asks, given, located_asks, number_asks}
+use Rattle.f77_meaning.proofs.Demands.{demand_asks, given, located_asks, number_asks, written_asks}
 use Rattle.f77_meaning.proofs.Evaluations.{AsksInTurn, breaks, then_asks, unmarked}
 
 -- a DO statement asks in turn
-begun_asks : (variable : ℕ) (m : Parameters) → AsksInTurn Begun (begun_with variable m)
+begun_asks : (variable : Binding) (m : Parameters) → AsksInTurn Begun (begun_with variable m)
 begun_asks variable m = by (is_zero m.increment) (is_in_range m)
   where
-    new : Begun
-    new = record { variable = variable; first = m.first; increment = m.increment; count = count_of m }
-
-    by : (z r : Bool) → AsksInTurn Begun (λ rest. cond z (fails ZeroIncrement) (cond r (gives new rest) (fails DoRange)))
+    by : (z r : Bool) → AsksInTurn Begun (λ rest. cond z (fails ZeroIncrement) (cond r (and_then (written_at variable rest) (λ address more. gives (begun_at m address) more)) (fails DoRange)))
     by true r = breaks (λ rest. fails ZeroIncrement) ZeroIncrement (λ answers. refl)
-    by false true = given new
+    by false true = then_asks (written_at variable) (λ address more. gives (begun_at m address) more) (written_asks variable) (λ address. given (begun_at m address))
     by false false = breaks (λ rest. fails DoRange) DoRange (λ answers. refl)
 
--- a PRINT asks for no value of an accumulation
-abbrev Unmarked : Printed → Type 0
-Unmarked (asks address by p) = by ≡ None
-Unmarked (enters unit bindings p) = Unit {0}
-Unmarked (whole line) = Unit {0}
-Unmarked (stops fault) = Unit {0}
+-- a frame at the same statement and stage, with the same bindings, bounds and active loops
+pub record StaysAt (frame next : Frame) : Type 0 where
+  pub unit : next.unit ≡ frame.unit
+  pub at : next.at ≡ frame.at
+  pub stage : next.stage ≡ frame.stage
+  pub bindings : next.bindings ≡ frame.bindings
+  pub bounds : next.bounds ≡ frame.bounds
+  pub active : next.active ≡ frame.active
+
+pub stays : (frame : Frame) → StaysAt frame frame
+stays frame = record { unit = refl; at = refl; stage = refl; bindings = refl; bounds = refl; active = refl }
+
+pub stays_done : (frame next : Frame) (items cells : ℕ) (answers : List ℤ) → StaysAt frame next → StaysAt frame (with_done items cells answers next)
+stays_done frame next items cells answers k = record { unit = k.unit; at = k.at; stage = k.stage; bindings = k.bindings; bounds = k.bounds; active = k.active }
+
+-- a PRINT asks for no value of an accumulation, and its frame stays at its statement
+abbrev pub Unmarked : Frame → Printed → Type 0
+Unmarked frame (asks address by p) = (by ≡ None) × StaysAt frame p.frame
+Unmarked frame (enters unit bindings p) = Unit {0}
+Unmarked frame (whole line) = Unit {0}
+Unmarked frame (stops fault) = Unit {0}
 
 module _ (s : Setting) where
   increment_asks : (o : Option Expr) → AsksInTurn ℤ (increment_of s o)
@@ -65,46 +78,61 @@ module _ (s : Setting) where
 
   do_asks : (control : LoopControl) → AsksInTurn Begun (begun_of s control)
   do_asks control =
-      then_asks (parameters_of s control) (λ m rest. and_then (located (entity_in s.layout.entities s.unit control.variable) None rest) (λ variable more. begun_with variable.address m more)) (parameters_ask control)
-      (λ m. then_asks (located (entity_in s.layout.entities s.unit control.variable) None) (λ variable more. begun_with variable.address m more) (located_asks (entity_in s.layout.entities s.unit control.variable) None tt)
-      (λ variable. begun_asks variable.address m))
+      then_asks (parameters_of s control) (λ m rest. and_then (located s (entity_in s.program.layout.entities s.unit control.variable) None rest) (λ variable more. begun_with variable.bound m more)) (parameters_ask control)
+      (λ m. then_asks (located s (entity_in s.program.layout.entities s.unit control.variable) None) (λ variable more. begun_with variable.bound m more) (located_asks s (entity_in s.program.layout.entities s.unit control.variable) None tt)
+      (λ variable. begun_asks variable.bound m))
 
-  limit_unmarked : (o : Option (List ℕ)) (go : List ℕ → Printed) → ((line : List ℕ) → Unmarked (go line)) → Unmarked (within_limit o go)
-  limit_unmarked None go h = tt
-  limit_unmarked (Some line) go h = h line
+  module _ (frame : Frame) where
+    -- what goes on from a PRINT whose frame stays
+    abbrev Goes : (Printing → Printed) → Type 0
+    Goes go = (q : Printing) → StaysAt frame q.frame → Unmarked frame (go q)
 
-  value_unmarked : (d : List ℤ → Demand Value) (p : Printing) (go : Printing → Printed) → AsksInTurn Value d → ((q : Printing) → Unmarked (go q)) → Unmarked (after_value (d p.answers) p go)
-  value_unmarked d p go turns h = by (d p.answers) refl
-    where
-      by : (r : Demand Value) → d p.answers ≡ r → Unmarked (after_value r p go)
-      by (gives value rest) e = limit_unmarked (with_text p.line (text_of value)) (λ line. go (next_item p line)) (λ line. h (next_item p line))
-      by (wants address m) e = unmarked d p.answers address m turns e
-      by (calls unit bindings) e = tt
-      by (fails fault) e = tt
+    limit_unmarked : (o : Option (List ℕ)) (go : List ℕ → Printed) → ((line : List ℕ) → Unmarked frame (go line)) → Unmarked frame (within_limit o go)
+    limit_unmarked None go h = tt
+    limit_unmarked (Some line) go h = h line
 
-  element_unmarked : (array : Entity) (p : Printing) (go : Printing → Printed) → ((q : Printing) → Unmarked (go q)) → Unmarked (ask_element array p go)
-  element_unmarked array p go h = by (nat_lt p.cells (storage_units_of array))
-    where
-      by : (b : Bool) → Unmarked (cond b (asks (start_of array + p.cells) None p) (go (next_item p p.line)))
-      by true = refl
-      by false = h (next_item p p.line)
+    item_done : (p : Printing) (line : List ℕ) → StaysAt frame p.frame → StaysAt frame (next_item p line).frame
+    item_done p line k = stays_done frame p.frame (suc p.frame.items) 0 [] k
 
-  elements_unmarked : (array : Entity) (answers : List ℤ) (p : Printing) (go : Printing → Printed) → ((q : Printing) → Unmarked (go q)) → Unmarked (after_elements array answers p go)
-  elements_unmarked array [] p go h = element_unmarked array p go h
-  elements_unmarked array (value ∷ rest) p go h =
-      limit_unmarked (with_text p.line (text_of (value_of_units array.kind (value ∷ [])))) (λ line. ask_element array (next_cell p line) go) (λ line. element_unmarked array (next_cell p line) go h)
+    cell_done : (p : Printing) (line : List ℕ) → StaysAt frame p.frame → StaysAt frame (next_cell p line).frame
+    cell_done p line k = stays_done frame p.frame p.frame.items (suc p.frame.cells) [] k
 
-  either_unmarked : (o : Option Entity) (d : List ℤ → Demand Value) (p : Printing) (go : Printing → Printed) → AsksInTurn Value d → ((q : Printing) → Unmarked (go q)) → Unmarked (after_array_or_value o d p go)
-  either_unmarked (Some array) d p go turns h = elements_unmarked array p.answers p go h
-  either_unmarked None d p go turns h = value_unmarked d p go turns h
+    value_unmarked : (d : List ℤ → Demand Value) (p : Printing) (go : Printing → Printed) → AsksInTurn Value d → Goes go → StaysAt frame p.frame → Unmarked frame (after_value (d p.frame.answers) p go)
+    value_unmarked d p go turns h k = by (d p.frame.answers) refl
+      where
+        by : (r : Demand Value) → d p.frame.answers ≡ r → Unmarked frame (after_value r p go)
+        by (gives value rest) e = limit_unmarked (with_text p.line (text_of value)) (λ line. go (next_item p line)) (λ line. h (next_item p line) (item_done p line k))
+        by (wants address m) e = (unmarked d p.frame.answers address m turns e, k)
+        by (calls unit bindings) e = tt
+        by (fails fault) e = tt
 
-  item_unmarked : (i : Item) (p : Printing) (go : Printing → Printed) → ((q : Printing) → Unmarked (go q)) → Unmarked (after_item s i p go)
-  item_unmarked (item.Plain expr) p go h = either_unmarked (array_named s.layout s.unit expr) (demand_of s expr) p go (demand_asks s expr) h
-  item_unmarked (item.Implied' items rest control) p go h = h (next_item p p.line)
+    element_unmarked : (array : Entity) (p : Printing) (go : Printing → Printed) → Goes go → StaysAt frame p.frame → Unmarked frame (ask_element array p go)
+    element_unmarked array p go h k = by (nat_lt p.frame.cells (storage_units_of array))
+      where
+        by : (b : Bool) → Unmarked frame (cond b (asks (start_of array + p.frame.cells) None p) (go (next_item p p.line)))
+        by true = (refl, k)
+        by false = h (next_item p p.line) (item_done p p.line k)
 
-  items_unmarked : (items : List Item) (p : Printing) → Unmarked (after_items s items p)
-  items_unmarked [] p = tt
-  items_unmarked (first ∷ items) p = item_unmarked first p (after_items s items) (items_unmarked items)
+    elements_unmarked : (array : Entity) (answers : List ℤ) (p : Printing) (go : Printing → Printed) → Goes go → StaysAt frame p.frame → Unmarked frame (after_elements array answers p go)
+    elements_unmarked array [] p go h k = element_unmarked array p go h k
+    elements_unmarked array (value ∷ rest) p go h k =
+        limit_unmarked (with_text p.line (text_of (value_of_units array.kind (value ∷ [])))) (λ line. ask_element array (next_cell p line) go) (λ line. element_unmarked array (next_cell p line) go h (cell_done p line k))
+
+    either_unmarked : (o : Option Entity) (d : List ℤ → Demand Value) (p : Printing) (go : Printing → Printed) → AsksInTurn Value d → Goes go → StaysAt frame p.frame → Unmarked frame (after_array_or_value o d p go)
+    either_unmarked (Some array) d p go turns h k = elements_unmarked array p.frame.answers p go h k
+    either_unmarked None d p go turns h k = value_unmarked d p go turns h k
+
+    item_unmarked : (i : Item) (p : Printing) (go : Printing → Printed) → Goes go → StaysAt frame p.frame → Unmarked frame (after_item s i p go)
+    item_unmarked (item.Plain expr) p go h k = either_unmarked (array_named s.program.layout s.unit expr) (demand_of s expr) p go (demand_asks s expr) h k
+    item_unmarked (item.Implied' items rest control) p go h k = h (next_item p p.line) (item_done p p.line k)
+
+    items_unmarked : (items : List Item) (p : Printing) → StaysAt frame p.frame → Unmarked frame (after_items s items p)
+    items_unmarked [] p k = tt
+    items_unmarked (first ∷ items) p k = item_unmarked first p (after_items s items) (λ q stays. items_unmarked items q stays) k
+
+    -- where a PRINT comes to from a frame
+    pub printed_unmarked : (items : List Item) (line : List ℕ) → Unmarked frame (printed_of s items frame line)
+    printed_unmarked items line = items_unmarked (drop frame.items items) (record { frame = frame; line = line }) (stays frame)
 
 -- a read, as what a process does next
 abbrev Reads : Move → ℕ → Option RedOp → Type 0
@@ -116,8 +144,8 @@ WritesMarked move op = (address : ℕ) (value : ℤ) (control : Option Control) 
 
 module _ (frame : Frame) (below : List Frame) (line : List ℕ) where
   -- PRINT and DO read nothing of an accumulation
-  print_reads_plainly : (p : Printed) (address : ℕ) (op : RedOp) → Unmarked p → Reads (print_move frame below line p) address (Some op) → ⊥
-  print_reads_plainly (asks a by p) address op u e = let m : by ≡ Some op = (let c : reads a by ≡ reads address (Some op) = e in cc) in let n : None ≡ Some op = sym u ∙ m in absurd (cc)
+  print_reads_plainly : (p : Printed) (address : ℕ) (op : RedOp) → Unmarked frame p → Reads (print_move frame below line p) address (Some op) → ⊥
+  print_reads_plainly (asks a by p) address op u e = let m : by ≡ Some op = (let c : reads a by ≡ reads address (Some op) = e in cc) in let n : None ≡ Some op = sym u.0 ∙ m in absurd (cc)
   print_reads_plainly (enters unit bindings p) address op u e = absurd (cc)
   print_reads_plainly (whole text) address op u e = absurd (cc)
   print_reads_plainly (stops fault) address op u e = absurd (cc)
@@ -132,7 +160,7 @@ module _ (frame : Frame) (below : List Frame) (line : List ℕ) where
   begin_reads_plainly None d address op u e = absurd (cc)
   begin_reads_plainly (Some loop) (gives b rest) address op u e = by (is_blocked b.variable (frame ∷ below)) e
     where
-      by : (blocked : Bool) → Reads (unless_blocked blocked (writing b.variable b.first None (Some (Began loop.ordinal)) (past_do (active_from frame.at loop b) frame ∷ below))) address (Some op) → ⊥
+      by : (blocked : Bool) → Reads (unless_blocked blocked (writing b.variable b.first None (Some (Began loop.ordinal)) (process_with line (past_do (active_from frame.at loop b) frame ∷ below)))) address (Some op) → ⊥
       by true e = absurd (cc)
       by false e = absurd (cc)
   begin_reads_plainly (Some loop) (wants a m) address op u e =
@@ -146,7 +174,7 @@ module _ (frame : Frame) (below : List Frame) (line : List ℕ) where
   begin_writes_plainly None d address value op control e = absurd (cc)
   begin_writes_plainly (Some loop) (gives b rest) address value op control e = by (is_blocked b.variable (frame ∷ below)) e
     where
-      by : (blocked : Bool) → event_of (unless_blocked blocked (writing b.variable b.first None (Some (Began loop.ordinal)) (past_do (active_from frame.at loop b) frame ∷ below))) ≡ writes address value (Some op) control → ⊥
+      by : (blocked : Bool) → event_of (unless_blocked blocked (writing b.variable b.first None (Some (Began loop.ordinal)) (process_with line (past_do (active_from frame.at loop b) frame ∷ below)))) ≡ writes address value (Some op) control → ⊥
       by true e = absurd (cc)
       by false e = absurd (cc)
   begin_writes_plainly (Some loop) (wants a m) address value op control e = absurd (cc)
@@ -165,7 +193,7 @@ module _ (frame : Frame) (below : List Frame) (line : List ℕ) where
   assign_reads : (d : Demand Written) (address : ℕ) (by : Option RedOp) → Reads (write_move frame below line d) address by → (d ≡ wants address by) × (write_move frame below line d ≡ reading address by frame below line)
   assign_reads (gives w rest) address by e = absurd (none (is_blocked w.address (frame ∷ below)) e)
     where
-      none : (blocked : Bool) → Reads (unless_blocked blocked (writing w.address w.value w.by None (past_statement frame ∷ below))) address by → ⊥
+      none : (blocked : Bool) → Reads (unless_blocked blocked (writing w.address w.value w.by None (process_with line (past_statement frame ∷ below)))) address by → ⊥
       none true e = absurd (cc)
       none false e = absurd (cc)
   assign_reads (wants a m) address by e = let c : reads a m ≡ reads address by = e in let same : wants a m ≡ wants address by = cc in (same, ap (λ d. write_move frame below line d) same)
@@ -176,7 +204,7 @@ module _ (frame : Frame) (below : List Frame) (line : List ℕ) where
   assign_writes : (d : Demand Written) (address : ℕ) (value : ℤ) (op : RedOp) (control : Option Control) → event_of (write_move frame below line d) ≡ writes address value (Some op) control → (w : Written) × (rest : List ℤ) × (d ≡ gives w rest) × (w.by ≡ Some op)
   assign_writes (gives w rest) address value op control e = by (is_blocked w.address (frame ∷ below)) e
     where
-      by : (blocked : Bool) → event_of (unless_blocked blocked (writing w.address w.value w.by None (past_statement frame ∷ below))) ≡ writes address value (Some op) control → (v : Written) × (more : List ℤ) × (gives w rest ≡ gives v more) × (v.by ≡ Some op)
+      by : (blocked : Bool) → event_of (unless_blocked blocked (writing w.address w.value w.by None (process_with line (past_statement frame ∷ below)))) ≡ writes address value (Some op) control → (v : Written) × (more : List ℤ) × (gives w rest ≡ gives v more) × (v.by ≡ Some op)
       by true e = absurd (cc)
       by false e = let c : writes w.address w.value w.by None ≡ writes address value (Some op) control = e in (w, rest, refl, cc)
   assign_writes (wants a m) address value op control e = absurd (cc)
@@ -197,13 +225,13 @@ record Assigning (program : Program) (frame : Frame) : Type 0 where
   is : listed.stmt ≡ Assign target value
 
 module _ (program : Program) (frame : Frame) (below : List Frame) (line : List ℕ) where
-  -- at a statement, with any answers
-  at_stmt : (listed : Listed) (s : Stmt) → frame.stage ≡ at_statement → listed_of program frame ≡ Some listed → listed.stmt ≡ s → (items cells : ℕ) (answers : List ℤ) (text : List ℕ) →
-      stage_move (with_done items cells answers frame) below text program frame.stage ≡ statement_move (with_done items cells answers frame) below text program s
-  at_stmt listed s staged here is items cells answers text =
-      ap (stage_move (with_done items cells answers frame) below text program) staged
-      ∙ ap (listed_move (with_done items cells answers frame) below text program) here
-      ∙ ap (statement_move (with_done items cells answers frame) below text program) is
+  -- at a statement, with any frame that is there
+  at_stmt : (listed : Listed) (s : Stmt) (next : Frame) → next.stage ≡ at_statement → listed_of program next ≡ Some listed → listed.stmt ≡ s → (text : List ℕ) →
+      stage_move next below text program next.stage ≡ statement_move next below text program s
+  at_stmt listed s next staged here is text =
+      ap (stage_move next below text program) staged
+      ∙ ap (listed_move next below text program) here
+      ∙ ap (statement_move next below text program) is
 
   -- the frame's own move
   own : Move
@@ -211,22 +239,22 @@ module _ (program : Program) (frame : Frame) (below : List Frame) (line : List �
 
   -- only an assignment reads for an accumulation
   abbrev MarkedRead : (address : ℕ) (op : RedOp) → Type 0
-  MarkedRead address op = (a : Assigning program frame) × (written_of (setting_of program.layout frame) a.target a.value frame.answers ≡ wants address (Some op)) × (stage_move frame below line program frame.stage ≡ reading address (Some op) frame below line)
+  MarkedRead address op = (a : Assigning program frame) × (written_of (setting_of program frame) a.target a.value frame.answers ≡ wants address (Some op)) × (stage_move frame below line program frame.stage ≡ reading address (Some op) frame below line)
 
   marked_read : (address : ℕ) (op : RedOp) → Reads (stage_move frame below line program frame.stage) address (Some op) → MarkedRead address op
   marked_read address op e = staged frame.stage refl e
     where
       stated : (listed : Listed) → frame.stage ≡ at_statement → listed_of program frame ≡ Some listed → (s : Stmt) → listed.stmt ≡ s → Reads (statement_move frame below line program s) address (Some op) → MarkedRead address op
       stated listed st here (Assign target value) is e =
-          let r : (written_of (setting_of program.layout frame) target value frame.answers ≡ wants address (Some op)) × (write_move frame below line (written_of (setting_of program.layout frame) target value frame.answers) ≡ reading address (Some op) frame below line) =
-          assign_reads frame below line (written_of (setting_of program.layout frame) target value frame.answers) address (Some op) e in
-          (record { target = target; value = value; listed = listed; staged = st; here = here; is = is }, r.0, at_stmt listed (Assign target value) st here is frame.items frame.cells frame.answers line ∙ r.1)
+          let r : (written_of (setting_of program frame) target value frame.answers ≡ wants address (Some op)) × (write_move frame below line (written_of (setting_of program frame) target value frame.answers) ≡ reading address (Some op) frame below line) =
+          assign_reads frame below line (written_of (setting_of program frame) target value frame.answers) address (Some op) e in
+          (record { target = target; value = value; listed = listed; staged = st; here = here; is = is }, r.0, at_stmt listed (Assign target value) frame st here is line ∙ r.1)
       stated listed st here (Do terminal control) is e =
-          absurd (begin_reads_plainly frame below line (loop_of_do program frame.unit frame.at) (begun_of (setting_of program.layout frame) control frame.answers) address op
-          (λ a m h. unmarked (begun_of (setting_of program.layout frame) control) frame.answers a m (do_asks (setting_of program.layout frame) control) h) e)
+          absurd (begin_reads_plainly frame below line (loop_of_do program frame.unit frame.at) (begun_of (setting_of program frame) control frame.answers) address op
+          (λ a m h. unmarked (begun_of (setting_of program frame) control) frame.answers a m (do_asks (setting_of program frame) control) h) e)
       stated listed st here (Print items) is e =
-          absurd (print_reads_plainly frame below line (printed_of (setting_of program.layout frame) items frame line) address op
-          (items_unmarked (setting_of program.layout frame) (drop frame.items items) (record { items = frame.items; cells = frame.cells; answers = frame.answers; line = line })) e)
+          absurd (print_reads_plainly frame below line (printed_of (setting_of program frame) items frame line) address op
+          (printed_unmarked (setting_of program frame) frame items line) e)
       stated listed st here _ is e = absurd (cc)
 
       listed_by : frame.stage ≡ at_statement → (found : Option Listed) → listed_of program frame ≡ found → Reads (listed_move frame below line program found) address (Some op) → MarkedRead address op
@@ -241,18 +269,18 @@ module _ (program : Program) (frame : Frame) (below : List Frame) (line : List �
 
   -- only an assignment writes one
   abbrev MarkedWrite : (op : RedOp) → Type 0
-  MarkedWrite op = (a : Assigning program frame) × (w : Written) × (rest : List ℤ) × (written_of (setting_of program.layout frame) a.target a.value frame.answers ≡ gives w rest) × (w.by ≡ Some op)
+  MarkedWrite op = (a : Assigning program frame) × (w : Written) × (rest : List ℤ) × (written_of (setting_of program frame) a.target a.value frame.answers ≡ gives w rest) × (w.by ≡ Some op)
 
   marked_write : (address : ℕ) (value : ℤ) (op : RedOp) (control : Option Control) → event_of (stage_move frame below line program frame.stage) ≡ writes address value (Some op) control → MarkedWrite op
   marked_write address value op control e = staged frame.stage refl e
     where
       stated : (listed : Listed) → frame.stage ≡ at_statement → listed_of program frame ≡ Some listed → (s : Stmt) → listed.stmt ≡ s → event_of (statement_move frame below line program s) ≡ writes address value (Some op) control → MarkedWrite op
       stated listed st here (Assign target v) is e =
-          let r : (w : Written) × (rest : List ℤ) × (written_of (setting_of program.layout frame) target v frame.answers ≡ gives w rest) × (w.by ≡ Some op) =
-          assign_writes frame below line (written_of (setting_of program.layout frame) target v frame.answers) address value op control e in
+          let r : (w : Written) × (rest : List ℤ) × (written_of (setting_of program frame) target v frame.answers ≡ gives w rest) × (w.by ≡ Some op) =
+          assign_writes frame below line (written_of (setting_of program frame) target v frame.answers) address value op control e in
           (record { target = target; value = v; listed = listed; staged = st; here = here; is = is }, r.0, r.1, r.2, r.3)
-      stated listed st here (Do terminal c) is e = absurd (begin_writes_plainly frame below line (loop_of_do program frame.unit frame.at) (begun_of (setting_of program.layout frame) c frame.answers) address value op control e)
-      stated listed st here (Print items) is e = absurd (print_writes_none frame below line (printed_of (setting_of program.layout frame) items frame line) address value (Some op) control e)
+      stated listed st here (Do terminal c) is e = absurd (begin_writes_plainly frame below line (loop_of_do program frame.unit frame.at) (begun_of (setting_of program frame) c frame.answers) address value op control e)
+      stated listed st here (Print items) is e = absurd (print_writes_none frame below line (printed_of (setting_of program frame) items frame line) address value (Some op) control e)
       stated listed st here _ is e = absurd (cc)
 
       listed_by : frame.stage ≡ at_statement → (found : Option Listed) → listed_of program frame ≡ found → event_of (listed_move frame below line program found) ≡ writes address value (Some op) control → MarkedWrite op
@@ -279,8 +307,8 @@ module _ (program : Program) (frame : Frame) (below : List Frame) (line : List �
       a : Assigning program frame
       a = m.0
 
-      c : Combined (written_of (setting_of program.layout frame) a.target a.value) frame.answers address op
-      c = (written_accumulates (setting_of program.layout frame) a.target a.value).combined frame.answers address op m.1
+      c : Combined (written_of (setting_of program frame) a.target a.value) frame.answers address op
+      c = (written_accumulates (setting_of program frame) a.target a.value).combined frame.answers address op m.1
 
       -- the process that has the answer
       got : (x : ℤ) → resumed program here_is x ≡ process_with line (with_answer x frame ∷ below)
@@ -289,24 +317,24 @@ module _ (program : Program) (frame : Frame) (below : List Frame) (line : List �
       written : ℤ → Written
       written x = record { address = address; value = apply op x c.added; by = Some op }
 
-      next : (x : ℤ) → stage_move (with_answer x frame) below line program frame.stage ≡ unless_blocked (is_blocked address (frame ∷ below)) (writing address (apply op x c.added) (Some op) None (past_statement frame ∷ below))
-      next x = at_stmt a.listed (Assign a.target a.value) a.staged a.here a.is frame.items frame.cells (frame.answers ++ x ∷ []) line ∙ ap (λ d. write_move (with_answer x frame) below line d) (c.writes x)
+      next : (x : ℤ) → stage_move (with_answer x frame) below line program frame.stage ≡ unless_blocked (is_blocked address (frame ∷ below)) (writing address (apply op x c.added) (Some op) None (process_with line (past_statement frame ∷ below)))
+      next x = at_stmt a.listed (Assign a.target a.value) (with_answer x frame) a.staged a.here a.is line ∙ ap (λ d. write_move (with_answer x frame) below line d) (c.writes x)
 
       by : (blocked : Bool) → is_blocked address (frame ∷ below) ≡ blocked → CombinesWith program here_is address op ⊎ ((x : ℤ) → event program (resumed program here_is x) ≡ faults DoVariableWritten)
-      by true h = inr (λ x. ap (event program) (got x) ∙ ap event_of (next x ∙ ap (λ b. unless_blocked b (writing address (apply op x c.added) (Some op) None (past_statement frame ∷ below))) h))
+      by true h = inr (λ x. ap (event program) (got x) ∙ ap event_of (next x ∙ ap (λ b. unless_blocked b (writing address (apply op x c.added) (Some op) None (process_with line (past_statement frame ∷ below)))) h))
       by false h = inl (record {
         added = c.added;
         after = process_with line (past_statement frame ∷ below);
-        combines = λ x. ap (event program) (got x) ∙ ap event_of (next x ∙ ap (λ b. unless_blocked b (writing address (apply op x c.added) (Some op) None (past_statement frame ∷ below))) h);
+        combines = λ x. ap (event program) (got x) ∙ ap event_of (next x ∙ ap (λ b. unless_blocked b (writing address (apply op x c.added) (Some op) None (process_with line (past_statement frame ∷ below)))) h);
         goes_on = λ x. ap (once_done program) (got x)
-            ∙ ap (λ move. done_by move (process_with line (with_answer x frame ∷ below))) (next x ∙ ap (λ b. unless_blocked b (writing address (apply op x c.added) (Some op) None (past_statement frame ∷ below))) h);
+            ∙ ap (λ move. done_by move (process_with line (with_answer x frame ∷ below))) (next x ∙ ap (λ b. unless_blocked b (writing address (apply op x c.added) (Some op) None (process_with line (past_statement frame ∷ below)))) h);
       })
 
   -- a frame without answers writes none
   fresh : (written : ℕ) (value : ℤ) (op : RedOp) (control : Option Control) → frame.answers ≡ [] → event program here_is ≡ writes written value (Some op) control → ⊥
   fresh written value op control none e =
       let m : MarkedWrite op = marked_write written value op control e in
-      (written_accumulates (setting_of program.layout frame) m.0.target m.0.value).fresh m.2 m.1 op (ap (written_of (setting_of program.layout frame) m.0.target m.0.value) (sym none) ∙ m.3) m.4
+      (written_accumulates (setting_of program frame) m.0.target m.0.value).fresh m.2 m.1 op (ap (written_of (setting_of program frame) m.0.target m.0.value) (sym none) ∙ m.3) m.4
 
   -- after a plain read comes none
   plain : (address written : ℕ) (x value : ℤ) (op : RedOp) (control : Option Control) → event program here_is ≡ reads address None → event program (resumed program here_is x) ≡ writes written value (Some op) control → ⊥
@@ -314,47 +342,49 @@ module _ (program : Program) (frame : Frame) (below : List Frame) (line : List �
     where
       stated : (listed : Listed) → frame.stage ≡ at_statement → listed_of program frame ≡ Some listed → (s : Stmt) → listed.stmt ≡ s → Reads (statement_move frame below line program s) address None → ⊥
       stated listed st here (Assign target v) is e =
-          let d : Demand Written = written_of (setting_of program.layout frame) target v frame.answers in
+          let d : Demand Written = written_of (setting_of program frame) target v frame.answers in
           let r : (d ≡ wants address None) × (write_move frame below line d ≡ reading address None frame below line) = assign_reads frame below line d address None e in
           let got : resumed program here_is x ≡ process_with line (with_answer x frame ∷ below) =
-          ap (λ move. resumed_by move here_is x) (at_stmt listed (Assign target v) st here is frame.items frame.cells frame.answers line ∙ r.1) in
-          let next : event_of (write_move (with_answer x frame) below line (written_of (setting_of program.layout frame) target v (frame.answers ++ x ∷ []))) ≡ writes written value (Some op) control =
-          sym (ap event_of (at_stmt listed (Assign target v) st here is frame.items frame.cells (frame.answers ++ x ∷ []) line)) ∙ sym (ap (event program) got) ∙ w in
-          let g : (y : Written) × (rest : List ℤ) × (written_of (setting_of program.layout frame) target v (frame.answers ++ x ∷ []) ≡ gives y rest) × (y.by ≡ Some op) =
-          assign_writes (with_answer x frame) below line (written_of (setting_of program.layout frame) target v (frame.answers ++ x ∷ [])) written value op control next in
-          (written_accumulates (setting_of program.layout frame) target v).plain frame.answers g.1 address x g.0 op r.0 g.2 g.3
-      stated listed st here (Do terminal c) is e = by (loop_of_do program frame.unit frame.at) refl (begun_of (setting_of program.layout frame) c frame.answers) refl e
+          ap (λ move. resumed_by move here_is x) (at_stmt listed (Assign target v) frame st here is line ∙ r.1) in
+          let next : event_of (write_move (with_answer x frame) below line (written_of (setting_of program frame) target v (frame.answers ++ x ∷ []))) ≡ writes written value (Some op) control =
+          sym (ap event_of (at_stmt listed (Assign target v) (with_answer x frame) st here is line)) ∙ sym (ap (event program) got) ∙ w in
+          let g : (y : Written) × (rest : List ℤ) × (written_of (setting_of program frame) target v (frame.answers ++ x ∷ []) ≡ gives y rest) × (y.by ≡ Some op) =
+          assign_writes (with_answer x frame) below line (written_of (setting_of program frame) target v (frame.answers ++ x ∷ [])) written value op control next in
+          (written_accumulates (setting_of program frame) target v).plain frame.answers g.1 address x g.0 op r.0 g.2 g.3
+      stated listed st here (Do terminal c) is e = by (loop_of_do program frame.unit frame.at) refl (begun_of (setting_of program frame) c frame.answers) refl e
         where
           same : stage_move frame below line program frame.stage ≡ statement_move frame below line program (Do terminal c)
-          same = at_stmt listed (Do terminal c) st here is frame.items frame.cells frame.answers line
+          same = at_stmt listed (Do terminal c) frame st here is line
 
           waits : (a : ℕ) (m : Option RedOp) → statement_move frame below line program (Do terminal c) ≡ reading a m frame below line → ⊥
           waits a m h =
               let got : resumed program here_is x ≡ process_with line (with_answer x frame ∷ below) = ap (λ move. resumed_by move here_is x) (same ∙ h) in
-              begin_writes_plainly (with_answer x frame) below line (loop_of_do program frame.unit frame.at) (begun_of (setting_of program.layout frame) c (frame.answers ++ x ∷ [])) written value op control
-              (sym (ap event_of (at_stmt listed (Do terminal c) st here is frame.items frame.cells (frame.answers ++ x ∷ []) line)) ∙ sym (ap (event program) got) ∙ w)
+              begin_writes_plainly (with_answer x frame) below line (loop_of_do program frame.unit frame.at) (begun_of (setting_of program frame) c (frame.answers ++ x ∷ [])) written value op control
+              (sym (ap event_of (at_stmt listed (Do terminal c) (with_answer x frame) st here is line)) ∙ sym (ap (event program) got) ∙ w)
 
-          by : (o : Option Loop) → loop_of_do program frame.unit frame.at ≡ o → (d : Demand Begun) → begun_of (setting_of program.layout frame) c frame.answers ≡ d → Reads (do_move frame below line o d) address None → ⊥
+          by : (o : Option Loop) → loop_of_do program frame.unit frame.at ≡ o → (d : Demand Begun) → begun_of (setting_of program frame) c frame.answers ≡ d → Reads (do_move frame below line o d) address None → ⊥
           by None f d g e = absurd (cc)
           by (Some loop) f (gives b rest) g e = none (is_blocked b.variable (frame ∷ below)) e
             where
-              none : (blocked : Bool) → Reads (unless_blocked blocked (writing b.variable b.first None (Some (Began loop.ordinal)) (past_do (active_from frame.at loop b) frame ∷ below))) address None → ⊥
+              none : (blocked : Bool) → Reads (unless_blocked blocked (writing b.variable b.first None (Some (Began loop.ordinal)) (process_with line (past_do (active_from frame.at loop b) frame ∷ below)))) address None → ⊥
               none true e = absurd (cc)
               none false e = absurd (cc)
           by (Some loop) f (wants a m) g e = waits a m (λ i. do_move frame below line (f i) (g i))
           by (Some loop) f (calls unit bindings) g e = absurd (cc)
           by (Some loop) f (fails fault) g e = absurd (cc)
-      stated listed st here (Print items) is e = by (printed_of (setting_of program.layout frame) items frame line) refl e
+      stated listed st here (Print items) is e = by (printed_of (setting_of program frame) items frame line) refl e
         where
           same : stage_move frame below line program frame.stage ≡ statement_move frame below line program (Print items)
-          same = at_stmt listed (Print items) st here is frame.items frame.cells frame.answers line
+          same = at_stmt listed (Print items) frame st here is line
 
-          by : (p : Printed) → printed_of (setting_of program.layout frame) items frame line ≡ p → Reads (print_move frame below line p) address None → ⊥
+          by : (p : Printed) → printed_of (setting_of program frame) items frame line ≡ p → Reads (print_move frame below line p) address None → ⊥
           by (asks a m p) h e =
-              let got : resumed program here_is x ≡ process_with p.line (with_answer x (with_done p.items p.cells p.answers frame) ∷ below) = ap (λ move. resumed_by move here_is x) (same ∙ ap (λ q. print_move frame below line q) h) in
-              let f : Frame = with_answer x (with_done p.items p.cells p.answers frame) in
-              print_writes_none f below p.line (printed_of (setting_of program.layout frame) items f p.line) written value (Some op) control
-              (sym (ap event_of (at_stmt listed (Print items) st here is p.items p.cells (p.answers ++ x ∷ []) p.line)) ∙ sym (ap (event program) got) ∙ w)
+              let got : resumed program here_is x ≡ process_with p.line (with_answer x p.frame ∷ below) = ap (λ move. resumed_by move here_is x) (same ∙ ap (λ q. print_move frame below line q) h) in
+              let f : Frame = with_answer x p.frame in
+              let stays : StaysAt frame p.frame = (subst (Unmarked frame) h (printed_unmarked (setting_of program frame) frame items line)).1 in
+              let there : listed_of program p.frame ≡ Some listed = (λ i. statement_at program (stays.unit i) (stays.at i)) ∙ here in
+              print_writes_none f below p.line (printed_of (setting_of program f) items f p.line) written value (Some op) control
+              (sym (ap event_of (at_stmt listed (Print items) f (stays.stage ∙ st) there is p.line)) ∙ sym (ap (event program) got) ∙ w)
           by (enters unit bindings p) h e = absurd (cc)
           by (whole text) h e = absurd (cc)
           by (stops fault) h e = absurd (cc)

@@ -22,10 +22,10 @@ stepped_run (Faulted fault) text line store rest = stopped store 1 (run.Faulted 
 -- the run of what a process does next is that of what it comes to
 pub after-outcome_by : (move : Move) (p : Process) (store : List ℤ) (count line : ℕ) (input : List ℕ) (go : Process → List ℤ → Run) → let n : StepOutcome = outcome_by move p store count input in after move p store line go ≡ stepped_run n.stepped n.line line n.store (go n.process n.store)
 after-outcome_by (reading address by frame below text) p store count line input go = refl
-after-outcome_by (writing address value by control frames) p store count line input go = refl
-after-outcome_by (taking address blocked frames) p store count line input go = refl
-after-outcome_by (moving frames) p store count line input go = refl
-after-outcome_by (printing text frames) p store count line input go = refl
+after-outcome_by (writing address value by control next) p store count line input go = refl
+after-outcome_by (taking address blocked next) p store count line input go = refl
+after-outcome_by (moving next) p store count line input go = refl
+after-outcome_by (printing text next) p store count line input go = refl
 after-outcome_by ending p store count line input go = refl
 after-outcome_by (failing fault) p store count line input go = refl
 

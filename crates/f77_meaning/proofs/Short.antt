@@ -41,9 +41,9 @@ value_short (calls unit bindings) p go h few = tt
 value_short (fails fault) p go h few = tt
 
 element_short : (array : Entity) (p : Printing) (go : Printing → Printed) → GoesShort go → length p.line ≤ most_line_bytes → IsShort (ask_element array p go)
-element_short array p go h few = by (nat_lt p.cells (storage_units_of array))
+element_short array p go h few = by (nat_lt p.frame.cells (storage_units_of array))
   where
-    by : (left : Bool) → IsShort (if left then asks (start_of array + p.cells) None p else go (next_item p p.line))
+    by : (left : Bool) → IsShort (if left then asks (start_of array + p.frame.cells) None p else go (next_item p p.line))
     by true = few
     by false = h (next_item p p.line) few
 
@@ -53,11 +53,11 @@ elements_short array (value ∷ rest) p go h few =
     text_short p.line (text_of (value_of_units array.kind (value ∷ []))) (λ line. ask_element array (next_cell p line) go) (λ more fits. element_short array (next_cell p more) go h fits)
 
 array_or_value_short : (o : Option Entity) (value : List ℤ → Demand Value) (p : Printing) (go : Printing → Printed) → GoesShort go → length p.line ≤ most_line_bytes → IsShort (after_array_or_value o value p go)
-array_or_value_short (Some array) value p go h few = elements_short array p.answers p go h few
-array_or_value_short None value p go h few = value_short (value p.answers) p go h few
+array_or_value_short (Some array) value p go h few = elements_short array p.frame.answers p go h few
+array_or_value_short None value p go h few = value_short (value p.frame.answers) p go h few
 
 item_short : (s : Setting) (i : Item) (p : Printing) (go : Printing → Printed) → GoesShort go → length p.line ≤ most_line_bytes → IsShort (after_item s i p go)
-item_short s (item.Plain expr) p go h few = array_or_value_short (array_named s.layout s.unit expr) (demand_of s expr) p go h few
+item_short s (item.Plain expr) p go h few = array_or_value_short (array_named s.program.layout s.unit expr) (demand_of s expr) p go h few
 item_short s (item.Implied' items rest control) p go h few = h (next_item p p.line) few
 
 or_blank_short : (line : List ℕ) → length line ≤ most_line_bytes → length (or_blank line) ≤ most_line_bytes
@@ -71,4 +71,4 @@ items_short s (first ∷ items) p few = item_short s first p (after_items s item
 -- the line of a PRINT that goes on from a short one
 pub printed_short : (s : Setting) (items : List Item) (frame : Frame) (line : List ℕ) → length line ≤ most_line_bytes → IsShort (printed_of s items frame line)
 printed_short s items frame line few =
-    items_short s (drop frame.items items) (record { items = frame.items; cells = frame.cells; answers = frame.answers; line = line }) few
+    items_short s (drop frame.items items) (record { frame = frame; line = line }) few

@@ -9,34 +9,30 @@ use Rattle.f77_ast.specs.declared.program.Unit.{Unit as ProgramUnit}
 use Rattle.f77_ast.specs.declared.step.Control.TheVariants.{Began}
 use Rattle.f77_ast.specs.declared.stmt.LoopControl.{LoopControl}
 use Rattle.f77_ast.specs.declared.stmt.Stmt.{Stmt, Assign, Continue, Do, Print}
-use Rattle.f77_structure.specs.Statements.{terminal_label}
-use Rattle.f77_structure.specs.Units.{first_executable, listing_of, main_unit, EndsWithEnd}
-use Rattle.f77_structure.proofs.UnitLemmas.{goes_on, first_stands}
+use Rattle.f77_structure.specs.Statements.{is_executable, terminal_label}
+use Rattle.f77_structure.specs.Units.{executes, first_executable, listing_of, main_unit, statement_at, EndsWithEnd}
+use Rattle.f77_structure.proofs.UnitLemmas.{goes_on, first_executes, first_stands}
 use Rattle.f77_meaning.specs.Assign.{Written, written_of}
 use Rattle.f77_meaning.specs.Demand.{Demand, gives, wants, calls, fails, setting_of}
 use Rattle.f77_meaning.specs.Do.{Begun, begun_of, active_from, turned}
 use Rattle.f77_meaning.specs.Print.{Printed, asks, enters, whole, stops, printed_of}
-use Rattle.f77_meaning.specs.Process.{ActiveLoop, Frame, come_to, Process, Stage, at_statement, at_inner, at_entry, at_increment, first_process, is_blocked, listed_of, with_answer, with_done}
+use Rattle.f77_meaning.specs.Process.{ActiveLoop, Frame, come_to, Process, Stage, at_statement, at_inner, at_entry, at_increment, first_process, is_blocked, listed_of, process_with, with_answer}
 use Rattle.f77_meaning.specs.Sound.{AreActive, AreFrames, FitsStage, IsFrame, IsOf, IsSound}
 use Rattle.f77_meaning.specs.Step.{Move, reading, writing, taking, moving, printing, ending, failing, do_move, frames_move, increment_move, is_terminal, listed_move, loop_of_do, move_of, past, past_do, past_increment, past_statement, print_move, resumed, stage_move, statement_move, write_move, unless_blocked, resumed_by}
 use Rattle.f77_io.specs.Number.{Taken, number, none, taken_of}
 use Rattle.f77_meaning.specs.StepOutcome.{on_input, taken_move}
 use Rattle.f77_meaning.proofs.Begins.{begins_of}
 use Rattle.f77_meaning.proofs.Frames.{past_is_frame, past_do_is_frame, past_increment_is_frame}
+use Rattle.f77_meaning.proofs.Marks.{StaysAt, Unmarked, printed_unmarked, stays, stays_done}
 use Rattle.f77_meaning.proofs.Short.{IsShort, printed_short}
-
--- frames that a process goes on with: there is a last one, and all are of the program
-pub record Follow (program : Program) (frames : List Frame) : Type 0 where
-  pub some : IsSome (slice_get frames 0)
-  pub are : AreFrames program frames
 
 -- what comes after a step is of the program
 abbrev pub Leads : Program → Move → Type 0
 Leads program (reading address by frame below line) = AreFrames program (frame ∷ below) × (length line ≤ most_line_bytes)
-Leads program (writing address value by control after) = Follow program after
-Leads program (taking address blocked after) = Follow program after
-Leads program (moving after) = Follow program after
-Leads program (printing text after) = Follow program after
+Leads program (writing address value by control after) = IsOf program after
+Leads program (taking address blocked after) = IsOf program after
+Leads program (moving after) = IsOf program after
+Leads program (printing text after) = IsOf program after
 Leads program ending = Unit {0}
 Leads program (failing fault) = Unit {0}
 
@@ -44,18 +40,24 @@ Leads program (failing fault) = Unit {0}
 above : (program : Program) (frame next : Frame) (below : List Frame) → AreFrames program (frame ∷ below) → next.unit ≡ frame.unit → IsFrame program next → AreFrames program (next ∷ below)
 above program frame next below are same is = (is, (subst (λ u. All (λ other. other.unit ≢ u) below) (sym same) are.1.0, are.1.1))
 
-follows : (program : Program) (frame next : Frame) (below : List Frame) → AreFrames program (frame ∷ below) → next.unit ≡ frame.unit → IsFrame program next → Follow program (next ∷ below)
-follows program frame next below are same is = record { some = refl; are = above program frame next below are same is }
+follows : (program : Program) (frame next : Frame) (below : List Frame) (line : List ℕ) → AreFrames program (frame ∷ below) → length line ≤ most_line_bytes → next.unit ≡ frame.unit → IsFrame program next → IsOf program (process_with line (next ∷ below))
+follows program frame next below line are few same is = record { some = refl; frames = above program frame next below are same is; line = few }
 
--- a frame with other items, addresses and answers
-reads_more : (program : Program) (frame : Frame) (items cells : ℕ) (answers : List ℤ) → IsFrame program frame → IsFrame program (with_done items cells answers frame)
-reads_more program frame items cells answers is = record { stands = is.stands; active = is.active; stage = fits frame.stage is.stage }
-  where
-    fits : (stage : Stage) → FitsStage stage frame → FitsStage stage (with_done items cells answers frame)
-    fits at_statement f = tt
-    fits at_inner f = f
-    fits at_entry f = f
-    fits at_increment f = f
+-- a stage that fits a frame fits one that stays at its statement
+stage_stays : (program : Program) (frame next : Frame) (stage : Stage) → StaysAt frame next → FitsStage program stage frame → FitsStage program stage next
+stage_stays program frame next at_statement k f = subst (λ o. executes o ≡ true) (λ i. statement_at program (sym k.unit i) (sym k.at i)) f
+stage_stays program frame next at_inner k f = f
+stage_stays program frame next at_entry k f = f
+stage_stays program frame next at_increment k f = subst (λ b. b ≡ true) (λ i. is_terminal (sym k.at i) (sym k.active i)) f
+
+-- a frame that stays at its statement is one of the program, where the frame before is
+stays_frame : (program : Program) (frame next : Frame) → StaysAt frame next → IsFrame program frame → IsFrame program next
+stays_frame program frame next k is = record {
+  stands = subst (λ o. IsSome o) (λ i. statement_at program (sym k.unit i) (sym k.at i)) is.stands;
+  active = subst (λ n. AreActive program next.unit next.at next.at n) (sym k.active)
+      (subst (λ u. AreActive program u next.at next.at frame.active) (sym k.unit) (subst (λ n. AreActive program frame.unit n n frame.active) (sym k.at) is.active));
+  stage = subst (λ stage. FitsStage program stage next) (sym k.stage) (stage_stays program frame next frame.stage k is.stage);
+}
 
 unblocked : (program : Program) (blocked : Bool) (move : Move) → Leads program move → Leads program (unless_blocked blocked move)
 unblocked program true move h = tt
@@ -85,55 +87,57 @@ unit_past_increment (loop ∷ outer) frame = by (nat_lt (suc loop.done) loop.cou
     by false = unit_past frame.at outer frame
 
 module _ (program : Program) (sound : IsSound program) (frame : Frame) (below : List Frame) (line : List ℕ) (are : AreFrames program (frame ∷ below)) (few : length line ≤ most_line_bytes) where
-  further : (listed : Listed) → listed_of program frame ≡ Some listed → goes_on listed.stmt → Follow program (past_statement frame ∷ below)
-  further listed e goes =
-      follows program frame (past_statement frame) below are (unit_past frame.at frame.active frame) (past_is_frame program frame frame.at frame.active listed sound e goes are.0.active)
+  -- at an executable statement that isn't END
+  module _ (listed : Listed) (e : listed_of program frame ≡ Some listed) (goes : goes_on listed.stmt) (runs : is_executable listed.stmt ≡ true) where
+    further : (text : List ℕ) → length text ≤ most_line_bytes → IsOf program (process_with text (past_statement frame ∷ below))
+    further text short =
+        follows program frame (past_statement frame) below text are short (unit_past frame.at frame.active frame) (past_is_frame program frame frame.at frame.active listed sound e goes runs are.0.active)
 
-  printed : (listed : Listed) → listed_of program frame ≡ Some listed → goes_on listed.stmt → (p : Printed) → IsShort p → Leads program (print_move frame below line p)
-  printed listed e goes (asks address by p) short = (above program frame (with_done p.items p.cells p.answers frame) below are refl (reads_more program frame p.items p.cells p.answers are.0), short)
-  printed listed e goes (enters unit bindings p) short = tt
-  printed listed e goes (whole text) short = further listed e goes
-  printed listed e goes (stops fault) short = tt
+    printed : (p : Printed) → IsShort p → Unmarked frame p → Leads program (print_move frame below line p)
+    printed (asks address by p) short marks = (above program frame p.frame below are marks.1.unit (stays_frame program frame p.frame marks.1 are.0), short)
+    printed (enters unit bindings p) short marks = tt
+    printed (whole text) short marks = further [] (omega arith)
+    printed (stops fault) short marks = tt
 
-  written : (listed : Listed) → listed_of program frame ≡ Some listed → goes_on listed.stmt → (d : Demand Written) → Leads program (write_move frame below line d)
-  written listed e goes (gives w rest) =
-      unblocked program (is_blocked w.address (frame ∷ below)) (writing w.address w.value w.by None (past_statement frame ∷ below)) (further listed e goes)
-  written listed e goes (wants address by) = (are, few)
-  written listed e goes (calls unit bindings) = tt
-  written listed e goes (fails fault) = tt
+    written : (d : Demand Written) → Leads program (write_move frame below line d)
+    written (gives w rest) =
+        unblocked program (is_blocked w.address (frame ∷ below)) (writing w.address w.value w.by None (process_with line (past_statement frame ∷ below))) (further line few)
+    written (wants address by) = (are, few)
+    written (calls unit bindings) = tt
+    written (fails fault) = tt
 
-  begun : (listed : Listed) (label : ℕ) (control : LoopControl) → listed_of program frame ≡ Some listed → terminal_label listed.stmt ≡ Some label → (o : Option Loop) → loop_of_do program frame.unit frame.at ≡ o → (d : Demand Begun) → begun_of (setting_of program.layout frame) control frame.answers ≡ d → Leads program (do_move frame below line o d)
+  begun : (listed : Listed) (label : ℕ) (control : LoopControl) → listed_of program frame ≡ Some listed → terminal_label listed.stmt ≡ Some label → (o : Option Loop) → loop_of_do program frame.unit frame.at ≡ o → (d : Demand Begun) → begun_of (setting_of program frame) control frame.answers ≡ d → Leads program (do_move frame below line o d)
   begun listed label control e names None found d h = tt
   begun listed label control e names (Some loop) found (gives start rest) h =
       let new : ActiveLoop = active_from frame.at loop start in
-      unblocked program (is_blocked start.variable (frame ∷ below)) (writing start.variable start.first None (Some (Began loop.ordinal)) (past_do new frame ∷ below))
-      (follows program frame (past_do new frame) below are (unit_past_do new frame)
-      (past_do_is_frame program frame label loop start sound (record { listed = listed; stands = e; names = names }) found (begins_of (setting_of program.layout frame) control frame.answers rest start sound.storage h) are.0.active))
+      unblocked program (is_blocked start.variable (frame ∷ below)) (writing start.variable start.first None (Some (Began loop.ordinal)) (process_with line (past_do new frame ∷ below)))
+      (follows program frame (past_do new frame) below line are few (unit_past_do new frame)
+      (past_do_is_frame program frame label loop start sound (record { listed = listed; stands = e; names = names }) found (begins_of (setting_of program frame) control frame.answers rest start sound.storage h) are.0.active))
   begun listed label control e names (Some loop) found (wants address by) h = (are, few)
   begun listed label control e names (Some loop) found (calls unit bindings) h = tt
   begun listed label control e names (Some loop) found (fails fault) h = tt
 
-  stated : (listed : Listed) → listed_of program frame ≡ Some listed → (s : Stmt) → listed.stmt ≡ s → Leads program (statement_move frame below line program s)
-  stated listed e (Assign target value) h = written listed e (subst goes_on (sym h) tt) (written_of (setting_of program.layout frame) target value frame.answers)
-  stated listed e (Do terminal control) h = begun listed terminal control e (ap terminal_label h) (loop_of_do program frame.unit frame.at) refl (begun_of (setting_of program.layout frame) control frame.answers) refl
-  stated listed e Continue h = further listed e (subst goes_on (sym h) tt)
-  stated listed e (Print items) h =
-      let p : Printed = printed_of (setting_of program.layout frame) items frame line in
-      printed listed e (subst goes_on (sym h) tt) p (printed_short (setting_of program.layout frame) items frame line few)
-  stated listed e _ h = tt
+  stated : (listed : Listed) → listed_of program frame ≡ Some listed → is_executable listed.stmt ≡ true → (s : Stmt) → listed.stmt ≡ s → Leads program (statement_move frame below line program s)
+  stated listed e runs (Assign target value) h = written listed e (subst goes_on (sym h) tt) runs (written_of (setting_of program frame) target value frame.answers)
+  stated listed e runs (Do terminal control) h = begun listed terminal control e (ap terminal_label h) (loop_of_do program frame.unit frame.at) refl (begun_of (setting_of program frame) control frame.answers) refl
+  stated listed e runs Continue h = further listed e (subst goes_on (sym h) tt) runs line few
+  stated listed e runs (Print items) h =
+      let p : Printed = printed_of (setting_of program frame) items frame line in
+      printed listed e (subst goes_on (sym h) tt) runs p (printed_short (setting_of program frame) items frame line few) (printed_unmarked (setting_of program frame) frame items line)
+  stated listed e runs _ h = tt
 
-  here : (found : Option Listed) → listed_of program frame ≡ found → Leads program (listed_move frame below line program found)
-  here None e = tt
-  here (Some listed) e = stated listed e listed.stmt refl
+  here : (found : Option Listed) → listed_of program frame ≡ found → executes found ≡ true → Leads program (listed_move frame below line program found)
+  here None e runs = tt
+  here (Some listed) e runs = stated listed e runs listed.stmt refl
 
   turns : (active : List ActiveLoop) → frame.active ≡ active → IsTrue (is_terminal frame.at active) → Leads program (increment_move frame below line active)
   turns [] h e = tt
   turns (loop ∷ outer) h e =
-      follows program frame (past_increment (loop ∷ outer) frame) below are (unit_past_increment (loop ∷ outer) frame)
+      follows program frame (past_increment (loop ∷ outer) frame) below line are few (unit_past_increment (loop ∷ outer) frame)
       (past_increment_is_frame program frame (loop ∷ outer) sound are.0.stands (subst (λ a. AreActive program frame.unit frame.at frame.at a) h are.0.active) e)
 
-  staged : (stage : Stage) → FitsStage stage frame → Leads program (stage_move frame below line program stage)
-  staged at_statement fits = here (listed_of program frame) refl
+  staged : (stage : Stage) → FitsStage program stage frame → Leads program (stage_move frame below line program stage)
+  staged at_statement fits = here (listed_of program frame) refl fits
   staged at_inner fits = tt
   staged at_entry fits = tt
   staged at_increment fits = turns frame.active refl fits
@@ -146,11 +150,11 @@ leads program (frame ∷ below) line sound are few = staged program sound frame 
 -- a process that got an answer is one of the program, and so is one that is done with its step
 pub IsOf-resumed_by : (program : Program) (move : Move) (p : Process) (answer : ℤ) → IsOf program p → Leads program move → IsOf program (resumed_by move p answer)
 IsOf-resumed_by program (reading address by frame below line) p answer is h =
-    record { some = refl; frames = above program frame (with_answer answer frame) below h.0 refl (reads_more program frame frame.items frame.cells (frame.answers ++ answer ∷ []) h.0.0); line = h.1 }
-IsOf-resumed_by program (writing address value by control after) p answer is h = record { some = h.some; frames = h.are; line = is.line }
-IsOf-resumed_by program (taking address blocked after) p answer is h = record { some = h.some; frames = h.are; line = is.line }
-IsOf-resumed_by program (moving after) p answer is h = record { some = h.some; frames = h.are; line = is.line }
-IsOf-resumed_by program (printing text after) p answer is h = record { some = h.some; frames = h.are; line = omega arith }
+    record { some = refl; frames = above program frame (with_answer answer frame) below h.0 refl (stays_frame program frame (with_answer answer frame) (stays_done frame frame frame.items frame.cells (frame.answers ++ answer ∷ []) (stays frame)) h.0.0); line = h.1 }
+IsOf-resumed_by program (writing address value by control after) p answer is h = h
+IsOf-resumed_by program (taking address blocked after) p answer is h = h
+IsOf-resumed_by program (moving after) p answer is h = h
+IsOf-resumed_by program (printing text after) p answer is h = h
 IsOf-resumed_by program ending p answer is h = is
 IsOf-resumed_by program (failing fault) p answer is h = is
 
@@ -192,7 +196,7 @@ at_unit P (first ∷ units) (suc u) all some = at_unit P units u (λ k d h. all 
 pub IsOf-first : (program : Program) → IsSound program → IsOf program (first_process program)
 IsOf-first program sound = record {
   some = refl;
-  frames = (record { stands = stands; active = tt; stage = tt }, ((λ k other h. absurd (omega (arith, h))), tt));
+  frames = (record { stands = stands; active = tt; stage = runs }, ((λ k other h. absurd (omega (arith, h))), tt));
   line = omega arith;
 }
   where
@@ -201,3 +205,6 @@ IsOf-first program sound = record {
 
     stands : IsSome (slice_get (listing_of program.units (main_unit program.units)) (first_executable (listing_of program.units (main_unit program.units))))
     stands = subst (λ l. IsSome (slice_get l (first_executable l))) (sym main.joined) (first_stands main.before main.last main.is_end)
+
+    runs : executes (slice_get (listing_of program.units (main_unit program.units)) (first_executable (listing_of program.units (main_unit program.units)))) ≡ true
+    runs = subst (λ l. executes (slice_get l (first_executable l)) ≡ true) (sym main.joined) (first_executes main.before main.last main.is_end)

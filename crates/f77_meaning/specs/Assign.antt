@@ -13,7 +13,9 @@ use Rattle.f77_ast.specs.declared.expr.Part.{Part}
 use Rattle.f77_ast.specs.declared.expr.Ref.{Ref}
 use Rattle.f77_trees.specs.Same.{same_ref}
 use Rattle.hyb_base.specs.Wrap.{sum_of, difference_of, product_of}
-use Rattle.f77_meaning.specs.Demand.{Demand, gives, wants, and_then, Evaluation, Located, Setting, demand_of, location_of, number_demand, number_of}
+use Rattle.f77_ast.specs.declared.fault.Fault.TheVariants.{ValueDummyAssigned}
+use Rattle.f77_meaning.specs.Demand.{Demand, gives, wants, fails, and_then, Evaluation, Located, Setting, demand_of, location_of, number_demand, number_of, written_at}
+use Rattle.f77_meaning.specs.Process.{Binding, placed, valued, unvalued}
 
 -- whether an operator is one of a chain of `+` and `-`
 abbrev pub stands_in_sum : Op → Bool
@@ -201,16 +203,19 @@ pub record Written : Type 0 where
 
 -- an assignment that is no accumulation: what the left side's subscript reads was read, then comes the right side
 abbrev pub plainly : Located → Evaluation → List ℤ → Demand Written
-plainly place value answers = and_then (value answers) (λ v rest. gives (record { address = place.address; value = number_of v; by = None }) rest)
+plainly place value answers =
+    and_then (value answers) (λ v rest. and_then (written_at place.bound rest) (λ address more. gives (record { address = address; value = number_of v; by = None }) more))
 
--- v is read last, and takes the value of the right side
-abbrev pub accumulate : RedOp → (address : ℕ) → (ℤ → ℤ) → List ℤ → Demand Written
-accumulate op address value [] = wants address (Some op)
-accumulate op address value (v ∷ rest) = gives (record { address = address; value = value v; by = Some op }) rest
+-- v is read last, and takes the value of the right side; where it is a dummy that is bound to a value, it isn't read, and takes none
+abbrev pub accumulate : RedOp → Binding → (ℤ → ℤ) → List ℤ → Demand Written
+accumulate op (placed address region length) value [] = wants address (Some op)
+accumulate op (placed address region length) value (v ∷ rest) = gives (record { address = address; value = value v; by = Some op }) rest
+accumulate op (valued bound) value rest = fails ValueDummyAssigned
+accumulate op (unvalued length) value rest = fails ValueDummyAssigned
 
 -- an accumulation, the left side's subscript having its value: all else is read, then v, and then v is written
 abbrev pub accumulated : Located → Accumulation → List ℤ → Demand Written
-accumulated place a answers = and_then (a.held answers) (λ value rest. accumulate a.op place.address value rest)
+accumulated place a answers = and_then (a.held answers) (λ value rest. accumulate a.op place.bound value rest)
 
 -- what an assignment writes, plainly or as an accumulation
 abbrev pub written_by : Option Accumulation → Located → Evaluation → List ℤ → Demand Written

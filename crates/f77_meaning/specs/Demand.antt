@@ -11,24 +11,24 @@ use Rattle.f77_ast.specs.declared.expr.Expr.TheOpen as layer
 use Rattle.f77_ast.specs.declared.expr.Expr.TheFolds.{fold-Expr, fold-Ref}
 use Rattle.f77_ast.specs.declared.expr.Ref.{Ref}
 use Rattle.f77_ast.specs.declared.program.Entity.{Entity}
-use Rattle.f77_ast.specs.declared.program.Layout.{Layout}
+use Rattle.f77_ast.specs.declared.program.Program.{Program}
 use Rattle.f77_ast.specs.declared.fault.Fault.{Fault}
-use Rattle.f77_ast.specs.declared.fault.Fault.TheVariants.{Subscript}
+use Rattle.f77_ast.specs.declared.fault.Fault.TheVariants.{Subscript, ValueDummyAssigned}
 use Rattle.f77_ast.specs.Entity.{entity_in}
-use Rattle.f77_structure.specs.Storage.{address_of_variable, address_of_element}
+use Rattle.f77_structure.specs.Storage.{address_of_variable, address_of_element, region_at}
 use Rattle.f77_structure.specs.Values.{Value, integer, truth, chars, value_of_units, units_of_value, only_number, Operated, yields, breaks, means_nothing, unary_of, binary_of}
-use Rattle.f77_meaning.specs.Process.{Binding, Dimension, Frame}
+use Rattle.f77_meaning.specs.Process.{Binding, placed, valued, unvalued, Dimension, Frame}
 
--- where an expression is evaluated: the layout, the unit, what its dummies are bound to, and the dimensions of its dummy arrays
+-- where an expression is evaluated: the program, the unit, what its dummies are bound to, and the dimensions of its dummy arrays
 pub record Setting : Type 0 where
-  pub layout : Layout
+  pub program : Program
   pub unit : ℕ
   pub bindings : List Binding
   pub bounds : List (List Dimension)
 
 -- that of a frame
-abbrev pub setting_of : Layout → Frame → Setting
-setting_of layout frame = record { layout = layout; unit = frame.unit; bindings = frame.bindings; bounds = frame.bounds }
+abbrev pub setting_of : Program → Frame → Setting
+setting_of program frame = record { program = program; unit = frame.unit; bindings = frame.bindings; bounds = frame.bounds }
 
 -- what an evaluation gives: a value and the answers that are left; the address that is read next, with the operator of an
 -- accumulation where it is the last read of one; the unit that is called next, with what its dummies are bound to; or a fault
@@ -65,11 +65,10 @@ abbrev pub cells_from : (address count : ℕ) → List ℤ → Demand (List ℤ)
 cells_from address zero answers = gives [] answers
 cells_from address (suc count) answers = and_then (cell_value address answers) (λ first rest. and_then (cells_from (address + 1) count rest) (λ others more. gives (first ∷ others) more))
 
--- a variable, or an element of an array: its type, its first address, and the length of a character
+-- a variable, or an element of an array: its type, and where it is, or what a dummy is bound to
 pub record Located : Type 0 where
   pub kind : Kind
-  pub address : ℕ
-  pub len : ℕ
+  pub bound : Binding
 
 -- how many addresses a value of a type takes: one of INTEGER and LOGICAL, and one for each character of CHARACTER
 abbrev pub width : Kind → (len : ℕ) → ℕ
@@ -77,9 +76,22 @@ width kind.Integer len = 1
 width kind.Logical len = 1
 width kind.Character len = len
 
--- its value: all of its addresses are read, in order
+-- the value of what is bound so: all addresses of a place are read, in order; a value is itself, without a read; and one that isn't
+-- known has no meaning where values are computed
+abbrev pub value_of_bound : Kind → Binding → Evaluation
+value_of_bound kind (placed address region length) answers = and_then (cells_from address (width kind length) answers) (λ cells rest. gives (value_of_units kind cells) rest)
+value_of_bound kind (valued value) answers = gives value answers
+value_of_bound kind (unvalued length) answers = gives (integer (pos 0)) answers
+
+-- that of a variable or an element
 abbrev pub value_at : Located → Evaluation
-value_at place answers = and_then (cells_from place.address (width place.kind place.len) answers) (λ cells rest. gives (value_of_units place.kind cells) rest)
+value_at place = value_of_bound place.kind place.bound
+
+-- the first address of what is written; to a dummy that is bound to a value nothing is
+abbrev pub written_at : Binding → List ℤ → Demand ℕ
+written_at (placed address region length) rest = gives address rest
+written_at (valued value) rest = fails ValueDummyAssigned
+written_at (unvalued length) rest = fails ValueDummyAssigned
 
 -- the number that a value is, or is written as: of a character its first number
 abbrev pub number_of : Value → ℤ
@@ -89,23 +101,24 @@ number_of value = only_number (units_of_value value)
 abbrev pub Location : Type 0
 Location = List ℤ → Demand Located
 
--- the place of an entity, or of the element of an array, at an address
-abbrev pub place_of : Entity → (address : ℕ) → Located
-place_of entity address = record { kind = entity.kind; address = address; len = entity.len }
+module _ (s : Setting) where
+  -- the place of an entity that is stored, or of the element of an array, at an address
+  abbrev pub place_of : Entity → (address : ℕ) → Located
+  place_of entity address = record { kind = entity.kind; bound = placed address (region_at s.program.layout.regions address) entity.len }
 
--- the place of an entity at an address that may be there; a subscript outside its bounds is a fault
-abbrev pub place_by : Entity → (address : Option ℕ) → List ℤ → Demand Located
-place_by entity (Some address) rest = gives (place_of entity address) rest
-place_by entity None rest = fails Subscript
+  -- the place of an entity at an address that may be there; a subscript outside its bounds is a fault
+  abbrev pub place_by : Entity → (address : Option ℕ) → List ℤ → Demand Located
+  place_by entity (Some address) rest = gives (place_of entity address) rest
+  place_by entity None rest = fails Subscript
 
--- a variable, or an element: the subscript is evaluated, and then checked. More subscripts, and a substring's bounds, have no
--- meaning yet; no accepted program has either
-abbrev pub located : Option Entity → Option (List Evaluation) → Location
-located None args answers = fails Subscript
-located (Some entity) None answers = place_by entity (address_of_variable entity) answers
-located (Some entity) (Some []) answers = fails Subscript
-located (Some entity) (Some (subscript ∷ [])) answers = and_then (subscript answers) (λ s rest. place_by entity (address_of_element entity (number_of s)) rest)
-located (Some entity) (Some (subscript ∷ second ∷ others)) answers = fails Subscript
+  -- a variable, or an element: the subscript is evaluated, and then checked. Dummies and constants, more subscripts, and a substring's
+  -- bounds have no meaning yet; no accepted program has one of them
+  abbrev pub located : Option Entity → Option (List Evaluation) → Location
+  located None args answers = fails Subscript
+  located (Some entity) None answers = place_by entity (address_of_variable entity) answers
+  located (Some entity) (Some []) answers = fails Subscript
+  located (Some entity) (Some (subscript ∷ [])) answers = and_then (subscript answers) (λ value rest. place_by entity (address_of_element entity (number_of value)) rest)
+  located (Some entity) (Some (subscript ∷ second ∷ others)) answers = fails Subscript
 
 -- one level: the left operand before the right one; a reference reads its subscript, and then its addresses
 abbrev pub expr_step : Expr-F Evaluation (Unit {0}) Location → Evaluation
@@ -122,7 +135,7 @@ part_step part = tt
 
 -- a name stands for an entity of its unit
 abbrev pub ref_step : Setting → Ref-F Evaluation (Unit {0}) Location → Location
-ref_step s ref = located (entity_in s.layout.entities s.unit ref.name) ref.args
+ref_step s ref = located s (entity_in s.program.layout.entities s.unit ref.name) ref.args
 
 -- the value of an expression
 abbrev pub demand_of : Setting → Expr → Evaluation

@@ -5,8 +5,8 @@ use Rattle.f77_ast.specs.declared.expr.Expr.{Expr}
 use Rattle.f77_ast.specs.declared.program.Loop.{Loop}
 use Rattle.f77_ast.specs.declared.fault.Fault.TheVariants.{ZeroIncrement, DoRange}
 use Rattle.f77_ast.specs.declared.stmt.LoopControl.{LoopControl}
-use Rattle.f77_meaning.specs.Demand.{Demand, gives, fails, and_then, Setting, located, number_demand}
-use Rattle.f77_meaning.specs.Process.{ActiveLoop}
+use Rattle.f77_meaning.specs.Demand.{Demand, gives, fails, and_then, Setting, located, number_demand, written_at}
+use Rattle.f77_meaning.specs.Process.{ActiveLoop, Binding}
 
 -- the initial, terminal and incrementation parameters m1, m2 and m3 (section 11.10.3)
 pub record Parameters : Type 0 where
@@ -48,11 +48,16 @@ pub record Begun : Type 0 where
   pub increment : ℤ
   pub count : ℕ
 
--- the incrementation parameter isn't 0 (section 11.10.3), and the count and the value at the end of the loop are in range
-abbrev pub begun_with : (variable : ℕ) → Parameters → List ℤ → Demand Begun
+-- a DO statement that begins with these parameters
+abbrev pub begun_at : Parameters → (variable : ℕ) → Begun
+begun_at m variable = record { variable = variable; first = m.first; increment = m.increment; count = count_of m }
+
+-- the incrementation parameter isn't 0 (section 11.10.3), the count and the value at the end of the loop are in range, and the variable
+-- may be written
+abbrev pub begun_with : Binding → Parameters → List ℤ → Demand Begun
 begun_with variable m rest =
     if is_zero m.increment then fails ZeroIncrement
-    else (if is_in_range m then gives (record { variable = variable; first = m.first; increment = m.increment; count = count_of m }) rest else fails DoRange)
+    else (if is_in_range m then and_then (written_at variable rest) (λ address more. gives (begun_at m address) more) else fails DoRange)
 
 module _ (s : Setting) where
   -- the incrementation parameter: 1 where it is left out
@@ -71,7 +76,7 @@ module _ (s : Setting) where
   abbrev pub begun_of : LoopControl → List ℤ → Demand Begun
   begun_of control answers =
       and_then (parameters_of control answers) (λ m rest.
-      and_then (located (entity_in s.layout.entities s.unit control.variable) None rest) (λ variable more. begun_with variable.address m more))
+      and_then (located s (entity_in s.program.layout.entities s.unit control.variable) None rest) (λ variable more. begun_with variable.bound m more))
 
 -- the loop of a DO statement at a place of a unit, which becomes active: its range begins after the DO statement
 abbrev pub active_from : (at : ℕ) → Loop → Begun → ActiveLoop

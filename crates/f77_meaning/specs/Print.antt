@@ -12,7 +12,7 @@ use Rattle.f77_structure.specs.Arrays.{array_named}
 use Rattle.f77_structure.specs.Storage.{start_of, storage_units_of}
 use Rattle.f77_structure.specs.Values.{Value, integer, truth, chars, value_of_units}
 use Rattle.f77_meaning.specs.Demand.{Demand, gives, wants, calls, fails, Setting, demand_of}
-use Rattle.f77_meaning.specs.Process.{Binding, Frame}
+use Rattle.f77_meaning.specs.Process.{Binding, Frame, with_done}
 
 -- the text of a value: an integer in decimal, a truth as `T` or `F`, characters as they are
 abbrev pub truth_text : Bool → List ℕ
@@ -33,12 +33,10 @@ abbrev pub or_blank : List ℕ → List ℕ
 or_blank [] = 32 ∷ []
 or_blank (byte ∷ bytes) = byte ∷ bytes
 
--- how far a PRINT is: so many items are done, and so many addresses of the next one where that is an array; the answers to the
--- reads of that item; and the line of what is done
+-- how far a PRINT is: its frame, which says how many items are done, how many addresses of the next one where that is an array, and
+-- the answers to the reads of that item; and the line of what is done
 pub record Printing : Type 0 where
-  pub items : ℕ
-  pub cells : ℕ
-  pub answers : List ℤ
+  pub frame : Frame
   pub line : List ℕ
 
 -- where a PRINT that goes on as far as it can comes to: it asks for a value or calls a unit, and is so far; its line is whole;
@@ -51,11 +49,11 @@ pub data Printed : Type 0 where
 
 -- a PRINT with its next item done, and this line: what the item read is forgotten
 abbrev pub next_item : Printing → (line : List ℕ) → Printing
-next_item p line = record { items = suc p.items; cells = 0; answers = []; line = line }
+next_item p line = record { frame = with_done (suc p.frame.items) 0 [] p.frame; line = line }
 
 -- a PRINT with the next address of its array done, and this line
 abbrev pub next_cell : Printing → (line : List ℕ) → Printing
-next_cell p line = record { items = p.items; cells = suc p.cells; answers = []; line = line }
+next_cell p line = record { frame = with_done p.frame.items (suc p.frame.cells) [] p.frame; line = line }
 
 -- goes on where the line isn't past its limit
 abbrev pub within_limit : Option (List ℕ) → (List ℕ → Printed) → Printed
@@ -71,7 +69,7 @@ after_value (fails fault) p go = stops fault
 
 -- the next element of an array is read; where there is none, the item is done
 abbrev pub ask_element : Entity → Printing → (Printing → Printed) → Printed
-ask_element array p go = if nat_lt p.cells (storage_units_of array) then asks (start_of array + p.cells) None p else go (next_item p p.line)
+ask_element array p go = if nat_lt p.frame.cells (storage_units_of array) then asks (start_of array + p.frame.cells) None p else go (next_item p p.line)
 
 -- an item that is an array: its elements are items in the order of their addresses (section 5.2.5), each of which goes into the
 -- line once it is read
@@ -81,13 +79,13 @@ after_elements array (value ∷ rest) p go =
     within_limit (with_text p.line (text_of (value_of_units array.kind (value ∷ [])))) (λ line. ask_element array (next_cell p line) go)
 
 abbrev pub after_array_or_value : Option Entity → (List ℤ → Demand Value) → Printing → (Printing → Printed) → Printed
-after_array_or_value (Some array) value p go = after_elements array p.answers p go
-after_array_or_value None value p go = after_value (value p.answers) p go
+after_array_or_value (Some array) value p go = after_elements array p.frame.answers p go
+after_array_or_value None value p go = after_value (value p.frame.answers) p go
 
 module _ (s : Setting) where
   -- after one item: an array's name is its elements, and another expression its value; an implied DO has no meaning yet
   abbrev pub after_item : Item → Printing → (Printing → Printed) → Printed
-  after_item (item.Plain expr) p go = after_array_or_value (array_named s.layout s.unit expr) (demand_of s expr) p go
+  after_item (item.Plain expr) p go = after_array_or_value (array_named s.program.layout s.unit expr) (demand_of s expr) p go
   after_item (item.Implied' items rest control) p go = go (next_item p p.line)
 
   -- after some items, from left to right: where all are done, the line is whole, and one blank where no item gave a text
@@ -97,4 +95,4 @@ module _ (s : Setting) where
 
   -- where the PRINT of a frame comes to, with this line so far
   abbrev pub printed_of : List Item → Frame → (line : List ℕ) → Printed
-  printed_of items frame line = after_items (drop frame.items items) (record { items = frame.items; cells = frame.cells; answers = frame.answers; line = line })
+  printed_of items frame line = after_items (drop frame.items items) (record { frame = frame; line = line })

@@ -111,6 +111,10 @@ with_answer answer frame = record frame { answers = frame.answers ++ answer ∷ 
 abbrev pub with_done : (items cells : ℕ) → List ℤ → Frame → Frame
 with_done items cells answers frame = record frame { items = items; cells = cells; answers = answers }
 
+-- a process of these frames and this line
+abbrev pub process_with : (line : List ℕ) → List Frame → Process
+process_with line frames = record { frames = frames; line = line }
+
 -- whether an address is that of the variable of an active loop or implied DO of a frame
 abbrev pub runs_on : (address : ℕ) → Frame → Bool
 runs_on address frame =

@@ -37,11 +37,11 @@ prefixed shown steps run = record { shown = shown ++ run.shown; store = run.stor
 abbrev pub after : Move → Process → (store : List ℤ) → (line : ℕ) → (Process → List ℤ → Run) → Run
 after (reading address by frame below text) p store line go =
     prefixed [] 1 (go (resumed_by (reading address by frame below text) p (slice_index_or store address (pos 0))) store)
-after (writing address value by control frames) p store line go =
-    prefixed [] 1 (go (resumed_by (writing address value by control frames) p (pos 0)) (slice_set store address value))
-after (taking address blocked frames) p store line go = prefixed [] 1 (go (resumed_by (taking address blocked frames) p (pos 0)) store)
-after (moving frames) p store line go = prefixed [] 1 (go (resumed_by (moving frames) p (pos 0)) store)
-after (printing text frames) p store line go = prefixed (Line text ∷ []) 1 (go (resumed_by (printing text frames) p (pos 0)) store)
+after (writing address value by control next) p store line go =
+    prefixed [] 1 (go (resumed_by (writing address value by control next) p (pos 0)) (slice_set store address value))
+after (taking address blocked next) p store line go = prefixed [] 1 (go (resumed_by (taking address blocked next) p (pos 0)) store)
+after (moving next) p store line go = prefixed [] 1 (go (resumed_by (moving next) p (pos 0)) store)
+after (printing text next) p store line go = prefixed (Line text ∷ []) 1 (go (resumed_by (printing text next) p (pos 0)) store)
 after ending p store line go = stopped store 1 Ended
 after (failing fault) p store line go = stopped store 1 (Faulted fault line)
 

@@ -9,17 +9,18 @@ use Rattle.f77_structure.specs.HasMeaning.{statement_has_meaning}
 use Rattle.f77_structure.specs.Loops.{loops_of}
 use Rattle.f77_structure.specs.Ranges.{IsDo, RangesNest, terminal_at}
 use Rattle.f77_structure.specs.Storage.{IsStorage}
-use Rattle.f77_structure.specs.Units.{EndsWithEnd, listing_of, main_unit, statement_count}
+use Rattle.f77_structure.specs.Units.{EndsWithEnd, ExecutablesFollow, executes, listing_of, main_unit, statement_count}
 use Rattle.f77_meaning.specs.Do.{has_64_bits, value_after}
 use Rattle.f77_meaning.specs.Process.{ActiveLoop, Frame, Process, Stage, at_statement, at_inner, at_entry, at_increment, listed_of}
 use Rattle.f77_meaning.specs.Step.{is_terminal, loop_of_do}
 
--- what every accepted program satisfies: there is a main unit; END is the last statement of each unit, and no other; each
--- statement has a meaning, with its expressions and references; all entities lie in storage; the loops are those of the DO
+-- what every accepted program satisfies: there is a main unit; END is the last statement of each unit, and no other; behind an
+-- executable statement stand executable ones; each statement has a meaning, with its expressions and references; all entities lie in storage; the loops are those of the DO
 -- statements; ranges nest; and statements are counted with 32 bits
 pub record IsSound (program : Program) : Type 0 where
   pub main : IsSome (slice_get program.units (main_unit program.units))
   pub ended : All (λ unit. EndsWithEnd unit.listing) program.units
+  pub ordered : All (λ unit. ExecutablesFollow unit.listing) program.units
   pub meaning : (u : ℕ) (unit : ProgramUnit) → slice_get program.units u ≡ Some unit → All (λ listed. IsTrue (statement_has_meaning program.layout u listed.stmt)) unit.listing
   pub storage : IsStorage program.layout
   pub loops : program.loops ≡ loops_of program.units
@@ -55,20 +56,20 @@ abbrev pub AreActive : Program → (unit low high : ℕ) → List ActiveLoop →
 AreActive program unit low high [] = Unit {0}
 AreActive program unit low high (loop ∷ outer) = IsActive program unit low high loop × AreActive program unit (loop.from - 1) loop.last outer
 
--- a stage fits its frame: where the frame increments, it is at the terminal statement of its innermost active loop. Nothing is at a
--- statement inside a logical IF, or at the entry of a unit, yet
-abbrev pub FitsStage : Stage → Frame → Type 0
-FitsStage at_statement frame = Unit {0}
-FitsStage at_inner frame = ⊥
-FitsStage at_entry frame = ⊥
-FitsStage at_increment frame = IsTrue (is_terminal frame.at frame.active)
+-- a stage fits its frame: the statement at which it is, is executable; where the frame increments, it is at the terminal statement of its
+-- innermost active loop. Nothing is at a statement inside a logical IF, or at the entry of a unit, yet
+abbrev pub FitsStage : Program → Stage → Frame → Type 0
+FitsStage program at_statement frame = IsTrue (executes (listed_of program frame))
+FitsStage program at_inner frame = ⊥
+FitsStage program at_entry frame = ⊥
+FitsStage program at_increment frame = IsTrue (is_terminal frame.at frame.active)
 
 -- a frame that may come of a program: it is at a statement, which lies in the range of each of its active loops, and at a stage
 -- that fits
 pub record IsFrame (program : Program) (frame : Frame) : Type 0 where
   pub stands : IsSome (listed_of program frame)
   pub active : AreActive program frame.unit frame.at frame.at frame.active
-  pub stage : FitsStage frame.stage frame
+  pub stage : FitsStage program frame.stage frame
 
 -- frames that may come of a program, the last one first: no unit is active twice
 abbrev pub AreFrames : Program → List Frame → Type 0

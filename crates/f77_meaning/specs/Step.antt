@@ -17,17 +17,17 @@ use Rattle.f77_meaning.specs.Demand.{Demand, gives, wants, calls, fails, setting
 use Rattle.f77_meaning.specs.Do.{Begun, begun_of, active_from, next_value, turned}
 use Rattle.f77_meaning.specs.Event.{Event, reads, writes, takes, moves, prints, ends, faults}
 use Rattle.f77_meaning.specs.Print.{Printed, asks, enters, whole, stops, printed_of}
-use Rattle.f77_meaning.specs.Process.{ActiveLoop, Frame, Process, Stage, at_statement, at_inner, at_entry, at_increment, come_to, is_blocked, listed_of, with_answer, with_done}
+use Rattle.f77_meaning.specs.Process.{ActiveLoop, Frame, Process, Stage, at_statement, at_inner, at_entry, at_increment, come_to, is_blocked, listed_of, process_with, with_answer}
 
 -- what a process does next, with what stands of it once that is done: a read, with the last frame, those below it and the line
--- that wait for the answer; a write, the next number of the input, a move or a line, with the frames after it; the end of the
+-- that wait for the answer; a write, the next number of the input, a move or a line, with the process after it; the end of the
 -- run; or a fault
 pub data Move : Type 0 where
   reading : (address : ℕ) (by : Option RedOp) (frame : Frame) (below : List Frame) (line : List ℕ) → Move
-  writing : (address : ℕ) (value : ℤ) (by : Option RedOp) (control : Option Control) (after : List Frame) → Move
-  taking : (address : ℕ) (blocked : Bool) (after : List Frame) → Move
-  moving : (after : List Frame) → Move
-  printing : (text : List ℕ) (after : List Frame) → Move
+  writing : (address : ℕ) (value : ℤ) (by : Option RedOp) (control : Option Control) (after : Process) → Move
+  taking : (address : ℕ) (blocked : Bool) (after : Process) → Move
+  moving : (after : Process) → Move
+  printing : (text : List ℕ) (after : Process) → Move
   ending : Move
   failing : (fault : Fault) → Move
 
@@ -71,14 +71,14 @@ loop_of_do program unit at = loop_with_range_from program.loops (statement_numbe
 module _ (frame : Frame) (below : List Frame) (line : List ℕ) where
   -- a PRINT reads what its items ask for, and then prints its line. No function is called yet
   abbrev pub print_move : Printed → Move
-  print_move (asks address by p) = reading address by (with_done p.items p.cells p.answers frame) below p.line
+  print_move (asks address by p) = reading address by p.frame below p.line
   print_move (enters unit bindings p) = ending
-  print_move (whole text) = printing text (past_statement frame ∷ below)
+  print_move (whole text) = printing text (process_with [] (past_statement frame ∷ below))
   print_move (stops fault) = failing fault
 
   -- an assignment reads what it asks for, and then writes
   abbrev pub write_move : Demand Written → Move
-  write_move (gives w rest) = unless_blocked (is_blocked w.address (frame ∷ below)) (writing w.address w.value w.by None (past_statement frame ∷ below))
+  write_move (gives w rest) = unless_blocked (is_blocked w.address (frame ∷ below)) (writing w.address w.value w.by None (process_with line (past_statement frame ∷ below)))
   write_move (wants address by) = reading address by frame below line
   write_move (calls unit bindings) = ending
   write_move (fails fault) = failing fault
@@ -86,7 +86,7 @@ module _ (frame : Frame) (below : List Frame) (line : List ℕ) where
   -- a DO statement reads what its parameters ask for, and then writes its variable: its loop begins (section 11.10.3)
   abbrev pub begin_move : Loop → Demand Begun → Move
   begin_move loop (gives b rest) =
-      unless_blocked (is_blocked b.variable (frame ∷ below)) (writing b.variable b.first None (Some (Began loop.ordinal)) (past_do (active_from frame.at loop b) frame ∷ below))
+      unless_blocked (is_blocked b.variable (frame ∷ below)) (writing b.variable b.first None (Some (Began loop.ordinal)) (process_with line (past_do (active_from frame.at loop b) frame ∷ below)))
   begin_move loop (wants address by) = reading address by frame below line
   begin_move loop (calls unit bindings) = ending
   begin_move loop (fails fault) = failing fault
@@ -99,16 +99,16 @@ module _ (frame : Frame) (below : List Frame) (line : List ℕ) where
   -- the incrementation processing of the innermost active loop writes its variable (section 11.10.7)
   abbrev pub increment_move : List ActiveLoop → Move
   increment_move [] = ending
-  increment_move (loop ∷ outer) = writing loop.variable (next_value loop) None (Some (Turned loop.ordinal)) (past_increment (loop ∷ outer) frame ∷ below)
+  increment_move (loop ∷ outer) = writing loop.variable (next_value loop) None (Some (Turned loop.ordinal)) (process_with line (past_increment (loop ∷ outer) frame ∷ below))
 
   module _ (program : Program) where
     -- a statement: an assignment, a DO statement and a PRINT as above; CONTINUE moves control (section 11.11); END ends the run,
     -- as there is no unit but the main one yet (section 11.14). The others have no meaning yet, or take no step, and no process of
     -- an accepted program is at one
     abbrev pub statement_move : Stmt → Move
-    statement_move (stmt.Assign target value) = write_move (written_of (setting_of program.layout frame) target value frame.answers)
-    statement_move (stmt.Do terminal control) = do_move (loop_of_do program frame.unit frame.at) (begun_of (setting_of program.layout frame) control frame.answers)
-    statement_move stmt.Continue = moving (past_statement frame ∷ below)
+    statement_move (stmt.Assign target value) = write_move (written_of (setting_of program frame) target value frame.answers)
+    statement_move (stmt.Do terminal control) = do_move (loop_of_do program frame.unit frame.at) (begun_of (setting_of program frame) control frame.answers)
+    statement_move stmt.Continue = moving (process_with line (past_statement frame ∷ below))
     statement_move stmt.Return = ending
     statement_move stmt.Else = ending
     statement_move stmt.EndIf = ending
@@ -121,7 +121,7 @@ module _ (frame : Frame) (below : List Frame) (line : List ℕ) where
     statement_move (stmt.BlockIf condition) = ending
     statement_move (stmt.ElseIf condition) = ending
     statement_move (stmt.Call name args) = ending
-    statement_move (stmt.Print items) = print_move (printed_of (setting_of program.layout frame) items frame line)
+    statement_move (stmt.Print items) = print_move (printed_of (setting_of program frame) items frame line)
     statement_move (stmt.Read items) = ending
     statement_move (stmt.Program name) = ending
     statement_move (stmt.Subroutine name dummies) = ending
@@ -169,18 +169,13 @@ event_of (failing fault) = faults fault
 abbrev pub event : Program → Process → Event
 event program p = event_of (move_of program p)
 
--- a process of these frames and this line
-abbrev pub process_with : (line : List ℕ) → List Frame → Process
-process_with line frames = record { frames = frames; line = line }
-
--- a process once the write, the number taken, the move or the line that it comes to now is done; a printed line is begun anew.
--- After other events it isn't asked
+-- a process once the write, the number taken, the move or the line that it comes to now is done. After other events it isn't asked
 abbrev pub done_by : Move → Process → Process
 done_by (reading address by frame below line) p = p
-done_by (writing address value by control after) p = process_with p.line after
-done_by (taking address blocked after) p = process_with p.line after
-done_by (moving after) p = process_with p.line after
-done_by (printing text after) p = process_with [] after
+done_by (writing address value by control after) p = after
+done_by (taking address blocked after) p = after
+done_by (moving after) p = after
+done_by (printing text after) p = after
 done_by ending p = p
 done_by (failing fault) p = p
 
@@ -192,10 +187,10 @@ once_done program p = done_by (move_of program p) p
 -- writes, takes, moves or prints is done; a process that has ended or met a fault stays where it is
 abbrev pub resumed_by : Move → Process → (answer : ℤ) → Process
 resumed_by (reading address by frame below line) p answer = process_with line (with_answer answer frame ∷ below)
-resumed_by (writing address value by control after) p answer = process_with p.line after
-resumed_by (taking address blocked after) p answer = process_with p.line after
-resumed_by (moving after) p answer = process_with p.line after
-resumed_by (printing text after) p answer = process_with [] after
+resumed_by (writing address value by control after) p answer = after
+resumed_by (taking address blocked after) p answer = after
+resumed_by (moving after) p answer = after
+resumed_by (printing text after) p answer = after
 resumed_by ending p answer = p
 resumed_by (failing fault) p answer = p
 

@@ -5,12 +5,12 @@ use Rattle.f77_ast.specs.declared.program.Program.{Program}
 use Rattle.f77_ast.specs.declared.step.Stepped.{Stepped}
 use Rattle.f77_ast.specs.declared.step.Stepped.TheVariants.{Read, Wrote, Inner, Printed, Ended, Faulted}
 use Rattle.f77_io.specs.Number.{Taken, number, none, taken_of}
-use Rattle.f77_meaning.specs.Process.{Frame, Process}
+use Rattle.f77_meaning.specs.Process.{Process}
 use Rattle.f77_meaning.specs.Step.{Move, reading, writing, taking, moving, printing, ending, failing, move_of, resumed_by, unless_blocked}
 
 -- what comes of READ's next number, on what is next in the input: the number is written, or, where the address is blocked, it
 -- meets a fault in place of the write; and where there is no number, the input's fault comes
-abbrev pub taken_move : Taken → (address : ℕ) → (blocked : Bool) → (after : List Frame) → Move
+abbrev pub taken_move : Taken → (address : ℕ) → (blocked : Bool) → (after : Process) → Move
 taken_move (number value rest) address blocked after = unless_blocked blocked (writing address value None None after)
 taken_move (none fault) address blocked after = failing fault
 
@@ -92,9 +92,9 @@ reads_after (failing fault) count = count
 -- the line after a step: a printed line is kept until it was taken, and else the line is that of the process
 abbrev pub line_after : Move → (line : List ℕ) → List ℕ
 line_after (reading address by frame below line) old = line
-line_after (writing address value by control after) old = old
-line_after (taking address blocked after) old = old
-line_after (moving after) old = old
+line_after (writing address value by control after) old = after.line
+line_after (taking address blocked after) old = after.line
+line_after (moving after) old = after.line
 line_after (printing text after) old = text
 line_after ending old = old
 line_after (failing fault) old = old

@@ -1,11 +1,12 @@
 -- The statements of units, by their places.
-use Rattle.std.proofs.Common.{◌≡◌, ℕ, zero, suc, ◌+◌, ◌≤◌, List, [], ◌∷◌, ◌++◌, All, Some, IsSome, IsTrue, refl, sym, ap, subst, ◌∙◌, arith, slice_get, Bool, true, false, not, cond}
+use Rattle.std.proofs.Common.{◌≡◌, ℕ, zero, suc, ◌+◌, ◌≤◌, List, [], ◌∷◌, ◌++◌, All, Option, None, Some, IsSome, IsTrue, refl, sym, ap, subst, ◌∙◌, arith, slice_get, Bool, true, false, not, cond}
 use Rattle.std.specs.Option.{option_and_then}
 use Rattle.f77_ast.specs.declared.program.Listed.{Listed}
 use Rattle.f77_ast.specs.declared.program.Unit.{Unit as ProgramUnit}
 use Rattle.f77_ast.specs.declared.stmt.Stmt.{Stmt, End}
-use Rattle.f77_structure.specs.Statements.{is_executable, may_end_range}
-use Rattle.f77_structure.specs.Units.{listing_of, first_executable, EndsWithEnd, is_main, main_unit}
+use Rattle.f77_ast.specs.declared.stmt.Stmt as stmt
+use Rattle.f77_structure.specs.Statements.{is_executable, may_end_range, terminal_label}
+use Rattle.f77_structure.specs.Units.{listing_of, first_executable, EndsWithEnd, ExecutablesFollow, executes, is_main, main_unit}
 
 -- whether control goes on after a statement: after all but END
 abbrev pub goes_on : Stmt → Type 0
@@ -66,6 +67,54 @@ first_stands (b ∷ before) last e = by (is_executable b.stmt) (first_stands bef
     by : (x : Bool) → IsSome (slice_get (before ++ last ∷ []) (first_executable (before ++ last ∷ []))) → IsSome (slice_get (b ∷ (before ++ last ∷ [])) (cond (not x) (1 + first_executable (before ++ last ∷ [])) 0))
     by true h = refl
     by false h = subst (λ n. IsSome (slice_get (b ∷ (before ++ last ∷ [])) n)) next h
+
+-- and that one is executable
+pub first_executes : (before : List Listed) (last : Listed) → last.stmt ≡ End → executes (slice_get (before ++ last ∷ []) (first_executable (before ++ last ∷ []))) ≡ true
+first_executes [] last e = by (is_executable last.stmt) refl (ap is_executable e)
+  where
+    by : (x : Bool) → is_executable last.stmt ≡ x → is_executable last.stmt ≡ true → executes (slice_get (last ∷ []) (cond (not x) (1 + 0) 0)) ≡ true
+    by true h k = h
+    by false h k = let wrong : false ≡ true = sym h ∙ k in absurd (cc)
+first_executes (b ∷ before) last e = by (is_executable b.stmt) refl (first_executes before last e)
+  where
+    next : suc (first_executable (before ++ last ∷ [])) ≡ 1 + first_executable (before ++ last ∷ [])
+    next = omega arith
+
+    by : (x : Bool) → is_executable b.stmt ≡ x → executes (slice_get (before ++ last ∷ []) (first_executable (before ++ last ∷ []))) ≡ true → executes (slice_get (b ∷ (before ++ last ∷ [])) (cond (not x) (1 + first_executable (before ++ last ∷ [])) 0)) ≡ true
+    by true h k = h
+    by false h k = subst (λ n. executes (slice_get (b ∷ (before ++ last ∷ [])) n) ≡ true) next k
+
+-- a statement that is there, and is executable
+pub executes_here : (o : Option Listed) (listed : Listed) → o ≡ Some listed → is_executable listed.stmt ≡ true → executes o ≡ true
+executes_here o listed e h = ap executes e ∙ h
+
+-- a DO statement is executable
+pub do_executes : (s : Stmt) (label : ℕ) → terminal_label s ≡ Some label → is_executable s ≡ true
+do_executes (stmt.Do terminal control) label e = refl
+do_executes _ label e = absurd (cc)
+
+-- and so is a terminal statement
+pub terminal_executes : (s : Stmt) → IsTrue (may_end_range s) → is_executable s ≡ true
+terminal_executes (stmt.Program name) e = absurd (cc)
+terminal_executes (stmt.Subroutine name dummies) e = absurd (cc)
+terminal_executes (stmt.Function typ name dummies) e = absurd (cc)
+terminal_executes (stmt.Declare typ entities) e = absurd (cc)
+terminal_executes (stmt.Dimension arrays) e = absurd (cc)
+terminal_executes (stmt.Common groups) e = absurd (cc)
+terminal_executes (stmt.Equivalence groups) e = absurd (cc)
+terminal_executes (stmt.Parameter constants) e = absurd (cc)
+terminal_executes (stmt.Implicit rules) e = absurd (cc)
+terminal_executes (stmt.Save entries) e = absurd (cc)
+terminal_executes (stmt.Init groups) e = absurd (cc)
+terminal_executes _ e = refl
+
+-- behind an executable statement, where one is there, it is executable
+pub next_executes : (listing : List Listed) (at : ℕ) (listed : Listed) → ExecutablesFollow listing → slice_get listing at ≡ Some listed → is_executable listed.stmt ≡ true → IsSome (slice_get listing (at + 1)) → executes (slice_get listing (at + 1)) ≡ true
+next_executes listing at listed ordered here executes_it some = by (slice_get listing (at + 1)) refl some
+  where
+    by : (o : Option Listed) → slice_get listing (at + 1) ≡ o → IsSome o → executes o ≡ true
+    by None e s = absurd (cc)
+    by (Some next) e s = ordered at listed next here e executes_it
 
 -- where one of some units is a main unit, there is a main unit among them
 pub main_is_there : (units : List ProgramUnit) (k : ℕ) (unit : ProgramUnit) → slice_get units k ≡ Some unit → IsTrue (is_main unit.listing) → IsSome (slice_get units (main_unit units))

@@ -18,18 +18,18 @@ use Rattle.f77_ast.specs.declared.stmt.LoopControl.{LoopControl}
 use Rattle.f77_ast.specs.declared.stmt.Stmt.{Stmt}
 use Rattle.f77_ast.specs.declared.stmt.Stmt as stmt
 use Rattle.f77_structure.specs.Arrays.{array_named}
-use Rattle.f77_structure.specs.Storage.{is_scalar, is_vector}
+use Rattle.f77_structure.specs.Storage.{is_scalar, is_stored, is_vector}
 use Rattle.f77_structure.specs.Values.{is_integer_kind, is_sign, is_arithmetic}
 
--- whether an entity is an INTEGER variable
+-- whether an entity is an INTEGER variable in storage; dummies and constants have no meaning yet
 abbrev pub is_integer_variable : Option Entity → Bool
 is_integer_variable None = false
-is_integer_variable (Some entity) = is_integer_kind entity.kind && is_scalar entity.bounds
+is_integer_variable (Some entity) = is_integer_kind entity.kind && (is_stored entity.place && is_scalar entity.bounds)
 
--- whether an entity is an INTEGER array of one dimension
+-- whether an entity is an INTEGER array of one dimension in storage
 abbrev pub is_integer_vector : Option Entity → Bool
 is_integer_vector None = false
-is_integer_vector (Some entity) = is_integer_kind entity.kind && is_vector entity.bounds
+is_integer_vector (Some entity) = is_integer_kind entity.kind && (is_stored entity.place && is_vector entity.bounds)
 
 -- whether a name with such subscripts has a meaning: a variable without, an array of one dimension with one that has a meaning
 abbrev pub names_integer : Option Entity → Option (List Bool) → Bool

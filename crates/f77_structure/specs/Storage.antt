@@ -1,6 +1,6 @@
 -- The storage units of the entities of a program (ANSI X3.9-1978, sections 2.13, 5.1.2, 5.2.5, 5.4 and 17.1.1).
-use Rattle.std.specs.Prelude.{ℤ, ◌+ℤ◌, ◌&&◌, int_le, if◌then◌else◌, ◌≡◌, ℕ, ◌+◌, ◌≤◌, ◌^◌, pos, Bool, true, false, List, [], ◌∷◌, length, map, All, take, Option, None, Some, slice_get}
-use Rattle.std.specs.List.{repeat}
+use Rattle.std.specs.Prelude.{ℤ, ◌+ℤ◌, ◌&&◌, int_le, nat_le, nat_lt, if◌then◌else◌, ◌≡◌, ℕ, ◌+◌, ◌≤◌, ◌^◌, pos, Bool, true, false, List, [], ◌∷◌, length, map, All, take, Option, None, Some, slice_get}
+use Rattle.std.specs.List.{position_or_len, repeat}
 use Rattle.std.specs.Int.{int_gap}
 use Rattle.std.specs.Option.{is_some, option_map}
 use Rattle.f77_ast.specs.declared.expr.Expr.{Expr, out-Expr}
@@ -131,6 +131,14 @@ pub record IsStorage (layout : Layout) : Type 0 where
 -- the region of an entity that overlaps no other
 abbrev pub region_of : Entity → Region
 region_of entity = record { start = start_of entity; len = storage_units_of entity }
+
+-- whether an address lies in a region
+abbrev pub lies_in : (address : ℕ) → Region → Bool
+lies_in address region = nat_le region.start address && nat_lt address (region.start + region.len)
+
+-- the number of the region in which an address lies; their number where it lies in none
+abbrev pub region_at : List Region → (address : ℕ) → ℕ
+region_at regions address = position_or_len (lies_in address) regions
 
 -- the layout of a file of one program unit without COMMON and EQUIVALENCE, for all of its entities at once: each stands
 -- where those before it end and is a region of its own, and each storage unit is 0 before the first step. Which entities

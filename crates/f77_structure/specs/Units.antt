@@ -1,5 +1,5 @@
 -- Program units: how the statements of a file are cut into them, and their statements by place (ANSI X3.9-1978, section 2.4).
-use Rattle.std.specs.Prelude.{All, IsFalse, ◌≡◌, ℕ, zero, suc, ◌+◌, Bool, true, not, List, [], ◌∷◌, ◌++◌, length, map, Option, None, Some, slice_get, if◌then◌else◌}
+use Rattle.std.specs.Prelude.{All, IsFalse, IsTrue, ◌≡◌, ℕ, zero, suc, ◌+◌, Bool, true, false, not, List, [], ◌∷◌, ◌++◌, length, map, Option, None, Some, slice_get, if◌then◌else◌}
 use Rattle.std.specs.List.{position_or_len, prefix_len}
 use Rattle.f77_ast.specs.declared.code.Code.{Code}
 use Rattle.f77_ast.specs.declared.program.Listed.{Listed}
@@ -53,6 +53,16 @@ pub record EndsWithEnd (listing : List Listed) : Type 0 where
   pub joined : listing ≡ before ++ last ∷ []
   pub nowhere_else : All (λ listed. IsFalse (is_end listed.stmt)) before
   pub is_end : last.stmt ≡ End
+
+-- statements of which each one right behind an executable one is executable: specification statements stand before these (section 3.5),
+-- and DATA, which may stand among them, has no meaning yet
+abbrev pub ExecutablesFollow : List Listed → Type 0
+ExecutablesFollow listing = (at : ℕ) (listed next : Listed) → slice_get listing at ≡ Some listed → slice_get listing (at + 1) ≡ Some next → IsTrue (is_executable listed.stmt) → IsTrue (is_executable next.stmt)
+
+-- whether there is a statement, and it is executable
+abbrev pub executes : Option Listed → Bool
+executes None = false
+executes (Some listed) = is_executable listed.stmt
 
 -- the statements of a unit; none where there is no such unit
 abbrev pub listing_of : List ProgramUnit → (unit : ℕ) → List Listed
