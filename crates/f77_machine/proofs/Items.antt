@@ -11,7 +11,7 @@ use Rattle.f77_ast.specs.declared.expr.Kind.{Kind}
 use Rattle.f77_ast.specs.declared.expr.Kind.TheVariants.{Integer, Logical, Character}
 use Rattle.f77_ast.specs.declared.program.Entity.{Entity}
 use Rattle.f77_structure.specs.HasMeaning.{is_integer_vector}
-use Rattle.f77_structure.specs.Storage.{is_vector}
+use Rattle.f77_structure.specs.Storage.{is_stored, is_vector}
 use Rattle.f77_structure.specs.Values.{is_integer_kind, value_of_units}
 use Rattle.f77_meaning.specs.Print.{Printing, Printed, after_elements, ask_element, next_cell, text_of, with_text, within_limit}
 use Rattle.f77_machine.specs.Print.{AsksWithin, BeginsWith}
@@ -87,7 +87,7 @@ most_left layout unit (suc place) (item ∷ items) = omega (arith, most_left lay
 
 -- an INTEGER array is of INTEGER
 kind_is : (array : Entity) → IsTrue (is_integer_vector (Some array)) → array.kind ≡ Integer
-kind_is array h = by array.kind (is_vector array.bounds) h
+kind_is array h = by array.kind (is_stored array.place && is_vector array.bounds) h
   where
     by : (k : Kind) (b : Bool) → IsTrue (is_integer_kind k && b) → k ≡ Integer
     by Integer b h = refl

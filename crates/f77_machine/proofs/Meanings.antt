@@ -2,16 +2,18 @@
 use Rattle.std.proofs.Common.{◌≡◌, ℕ, ◌&&◌, ◌<◌, ◌≤◌, Bool, true, false, List, [], ◌∷◌, length, map, get_or, Option, Some, IsTrue, refl, sym, subst, ◌∙◌, arith}
 use Rattle.std.specs.Option.{option_map}
 use Rattle.f77_ast.specs.declared.expr.Expr.{Expr, Binary}
+use Rattle.f77_ast.specs.declared.expr.Expr as expr_of
+use Rattle.f77_ast.specs.declared.expr.Ref.{Ref}
 use Rattle.f77_ast.specs.declared.expr.Expr.TheFolds.{fold-roll-Expr}
 use Rattle.f77_ast.specs.declared.expr.Expr.TheOpen as layer
-use Rattle.f77_ast.specs.declared.expr.Expr.TheVariants.{rolls-Binary}
+use Rattle.f77_ast.specs.declared.expr.Expr.TheVariants.{rolls-Binary, rolls-Ref}
 use Rattle.f77_ast.specs.declared.expr.Op.{Op}
 use Rattle.f77_ast.specs.declared.program.Layout.{Layout}
 use Rattle.f77_ast.specs.declared.program.Entity.{Entity}
 use Rattle.f77_structure.specs.HasMeaning.{expr_has_meaning, is_integer_vector, meaning_part, meaning_ref, meaning_step, names_integer}
 use Rattle.f77_structure.specs.Values.{is_arithmetic}
 use Rattle.f77_ast.specs.declared.fault.Fault.TheVariants.{Subscript}
-use Rattle.f77_meaning.specs.Demand.{Evaluation, fails, located}
+use Rattle.f77_meaning.specs.Demand.{Evaluation, Location, Setting, and_then, demand_of, expr_step, fails, located, location_of, part_step, ref_step, value_at}
 use Rattle.std.proofs.Common.{ℤ, ap}
 
 -- both of the last two of three tests
@@ -59,7 +61,13 @@ subscript_means means entity subscript xs args e f h =
     (subst (λ ys. IsTrue (names_integer (Some entity) (Some (map means ys)))) f (subst (λ a. IsTrue (names_integer (Some entity) (option_map (map means) a))) e h))
 
 -- no reference with two subscripts or more has a meaning yet
-pub many_subscripts : (evaluation : Expr → Evaluation) (entity : Entity) (xs : List Expr) (args : Option (List Expr)) (answers : List ℤ) → args ≡ Some xs → 2 ≤ length xs → located (Some entity) (option_map (map evaluation) args) answers ≡ fails Subscript
-many_subscripts evaluation entity [] args answers e h = absurd (omega (arith, h))
-many_subscripts evaluation entity (x ∷ []) args answers e h = absurd (omega (arith, h))
-many_subscripts evaluation entity (x ∷ y ∷ xs) args answers e h = ap (λ a. located (Some entity) (option_map (map evaluation) a) answers) e
+pub many_subscripts : (s : Setting) (entity : Entity) (xs : List Expr) (args : Option (List Expr)) (answers : List ℤ) → args ≡ Some xs → 2 ≤ length xs → located s (Some entity) (option_map (map (demand_of s)) args) answers ≡ fails Subscript
+many_subscripts s entity [] args answers e h = absurd (omega (arith, h))
+many_subscripts s entity (x ∷ []) args answers e h = absurd (omega (arith, h))
+many_subscripts s entity (x ∷ y ∷ xs) args answers e h = ap (λ a. located s (Some entity) (option_map (map (demand_of s)) a) answers) e
+
+-- the value of a reference is that of what it stands for
+pub reference_value : (s : Setting) (expr : Expr) (reference : Ref) (answers : List ℤ) → expr ≡ expr_of.Ref reference → and_then (location_of s reference answers) value_at ≡ demand_of s expr answers
+reference_value s expr reference answers e =
+    ap (λ d. d answers) (sym (fold-roll-Expr Evaluation (Unit {0}) Location expr_step part_step (ref_step s) (layer.Ref reference)) ∙ ap (demand_of s) (rolls-Ref reference))
+    ∙ ap (λ x. demand_of s x answers) (sym e)

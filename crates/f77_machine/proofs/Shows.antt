@@ -53,10 +53,10 @@ module _ (program : Program) (frame : Frame) (below : List Frame) (line : List �
   begun (Some loop) (fails fault) = tt
 
   stated : (s : Stmt) → PrintsShort (statement_move frame below line program s)
-  stated (Assign target value) = written (written_of (setting_of program.layout frame) target value frame.answers)
-  stated (Do terminal control) = begun (loop_of_do program frame.unit frame.at) (begun_of (setting_of program.layout frame) control frame.answers)
+  stated (Assign target value) = written (written_of (setting_of program frame) target value frame.answers)
+  stated (Do terminal control) = begun (loop_of_do program frame.unit frame.at) (begun_of (setting_of program frame) control frame.answers)
   stated Continue = tt
-  stated (Print items) = printed (printed_of (setting_of program.layout frame) items frame line) (printed_short (setting_of program.layout frame) items frame line few)
+  stated (Print items) = printed (printed_of (setting_of program frame) items frame line) (printed_short (setting_of program frame) items frame line few)
   stated _ = tt
 
   here : (found : Option Listed) → PrintsShort (listed_move frame below line program found)

@@ -1,9 +1,12 @@
 -- What an evaluation answers.
 use Rattle.std.specs.Prelude.{◌≡◌, ℕ, ℤ, ◌+◌, ◌<◌, ◌≤◌, length}
 use Rattle.f77_ast.specs.declared.expr.Kind.TheVariants.{Integer}
+use Rattle.f77_ast.specs.declared.program.Layout.{Layout}
+use Rattle.f77_structure.specs.Storage.{region_at}
 use Rattle.f77_structure.specs.Values.{Value, integer}
 use Rattle.f77_meaning.specs.Demand.{Demand, gives, wants, fails}
 use Rattle.f77_meaning.specs.Demand as meaning
+use Rattle.f77_meaning.specs.Process.{placed}
 use Rattle.f77_machine.specs.declared.evaluated.Evaluated.{Evaluated}
 use Rattle.f77_machine.specs.declared.evaluated.Evaluated.TheVariants.{Gives, Wants, Fails}
 use Rattle.f77_machine.specs.declared.place.Located.{Located}
@@ -21,14 +24,14 @@ value_demand (Wants address by) = wants address by
 value_demand (Fails fault) = fails fault
 
 -- a variable or an element, as the definitions have it
-abbrev pub as_located : Located → meaning.Located
-as_located place = record { kind = place.kind; address = place.address; len = place.len }
+abbrev pub as_located : Layout → Located → meaning.Located
+as_located layout place = record { kind = place.kind; bound = placed place.address (region_at layout.regions place.address) place.len }
 
 -- the same of an answer
-abbrev pub located_demand : Evaluated Located → Demand meaning.Located
-located_demand (Gives place rest) = gives (as_located place) rest.now
-located_demand (Wants address by) = wants address by
-located_demand (Fails fault) = fails fault
+abbrev pub located_demand : Layout → Evaluated Located → Demand meaning.Located
+located_demand layout (Gives place rest) = gives (as_located layout place) rest.now
+located_demand layout (Wants address by) = wants address by
+located_demand layout (Fails fault) = fails fault
 
 -- of this many values that were known, no more were taken than are needed; where an address is wanted, fewer were known
 -- than are needed, and it lies in storage of `total` addresses

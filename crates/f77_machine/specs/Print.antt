@@ -3,25 +3,26 @@ use Rattle.std.specs.Prelude.{◌≡◌, ℕ, ℤ, ◌+◌, ◌<◌, ◌≤◌, 
 use Rattle.f77_ast.specs.declared.fault.Fault.{Fault}
 use Rattle.f77_meaning.specs.Print.{asks, whole, stops, or_blank}
 use Rattle.f77_meaning.specs.Print as meaning
+use Rattle.f77_meaning.specs.Process.{Frame, with_done}
 use Rattle.f77_machine.specs.declared.print.Printing.{Printing}
 use Rattle.f77_machine.specs.declared.print.Printed.{Printed}
 use Rattle.f77_machine.specs.declared.print.Printed.TheVariants.{GoesOn, Asks, Stops}
 
--- how far a PRINT is, with this line
-abbrev pub as_printing : Printing → (line : List ℕ) → meaning.Printing
-as_printing at line = record { items = at.items; cells = at.cells; answers = at.answers.now; line = line }
+-- how far the PRINT of a frame is, with this line
+abbrev pub as_printing : Frame → Printing → (line : List ℕ) → meaning.Printing
+as_printing frame at line = record { frame = with_done at.items at.cells at.answers.now frame; line = line }
 
--- where a PRINT comes to with this line, where it goes on so
-abbrev pub go_on : Printed → (line : List ℕ) → (meaning.Printing → meaning.Printed) → meaning.Printed
-go_on (GoesOn at) line go = go (as_printing at line)
-go_on (Asks address by at) line go = asks address by (as_printing at line)
-go_on (Stops fault) line go = stops fault
+-- where the PRINT of a frame comes to with this line, where it goes on so
+abbrev pub go_on : Frame → Printed → (line : List ℕ) → (meaning.Printing → meaning.Printed) → meaning.Printed
+go_on frame (GoesOn at) line go = go (as_printing frame at line)
+go_on frame (Asks address by at) line go = asks address by (as_printing frame at line)
+go_on frame (Stops fault) line go = stops fault
 
 -- where a PRINT without further items comes to: its line is whole
-abbrev pub as_printed : Printed → (line : List ℕ) → meaning.Printed
-as_printed (GoesOn at) line = whole (or_blank line)
-as_printed (Asks address by at) line = asks address by (as_printing at line)
-as_printed (Stops fault) line = stops fault
+abbrev pub as_printed : Frame → Printed → (line : List ℕ) → meaning.Printed
+as_printed frame (GoesOn at) line = whole (or_blank line)
+as_printed frame (Asks address by at) line = asks address by (as_printing frame at line)
+as_printed frame (Stops fault) line = stops fault
 
 -- the line, where a text was added to it
 abbrev pub line_by : Result (Unit {0}) Fault → (line : List ℕ) → Option (List ℕ)

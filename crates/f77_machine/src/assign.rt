@@ -16,7 +16,7 @@ use crate::demand::{demand, location};
 use crate::evaluated::Evaluated;
 use crate::place::Located;
 use f77_ast::expr::{Expr, Ref};
-use f77_ast::program::Layout;
+use f77_ast::program::Program;
 use hyb_base::ops::RedOp;
 
 /// A write of an assignment.
@@ -32,23 +32,23 @@ pub struct Written {
 
 /// What an assignment writes: the left side's subscript is evaluated first. An accumulation reads its left side last.
 pub fn assigned<'a>(
-    layout: &Layout,
+    program: &Program,
     unit: u32,
     target: &Ref,
     value: &Expr,
     answers: &'a [i64],
 ) -> Evaluated<'a, Written>
-    requires storage { IsStorage layout.now }
-    requires target { IsTrue (ref_has_meaning layout.now unit target.now) }
-    requires meaning { IsTrue (expr_has_meaning layout.now unit value.now) }
-    ensures value { written_demand result ≡ written_of (setting_in layout.now unit) target.now value.now answers.now }
-    ensures asks { Asks (length layout.now.first) (subscript_reads target.now + reads_in value.now) (length answers.now) result }
-    ensures lies { GivesWriteBelow (length layout.now.first) result }
+    requires storage { IsStorage program.now.layout }
+    requires target { IsTrue (ref_has_meaning program.now.layout unit target.now) }
+    requires meaning { IsTrue (expr_has_meaning program.now.layout unit value.now) }
+    ensures value { written_demand result ≡ written_of (setting_in program.now unit) target.now value.now answers.now }
+    ensures asks { Asks (length program.now.layout.first) (subscript_reads target.now + reads_in value.now) (length answers.now) result }
+    ensures lies { GivesWriteBelow (length program.now.layout.first) result }
 {
-    match location(layout, unit, target, answers) {
-        Evaluated::Gives(place, rest) => match held(layout, unit, target, value, 0, rest) {
-            Some(first) => accumulated(layout, unit, target, value, place, first, rest),
-            None => plain(layout, unit, value, place, rest),
+    match location(program, unit, target, answers) {
+        Evaluated::Gives(place, rest) => match held(program, unit, target, value, 0, rest) {
+            Some(first) => accumulated(program, unit, target, value, place, first, rest),
+            None => plain(program, unit, value, place, rest),
         },
         Evaluated::Wants(address, by) => Evaluated::Wants(address, by),
         Evaluated::Fails(fault) => Evaluated::Fails(fault),
@@ -57,20 +57,20 @@ pub fn assigned<'a>(
 
 /// What an assignment that is no accumulation writes.
 fn plain<'a>(
-    layout: &Layout,
+    program: &Program,
     unit: u32,
     value: &Expr,
     place: Located,
     rest: &'a [i64],
 ) -> Evaluated<'a, Written>
-    requires storage { IsStorage layout.now }
-    requires meaning { IsTrue (expr_has_meaning layout.now unit value.now) }
-    requires lies { place.address < length layout.now.first }
-    ensures value { written_demand result ≡ plainly (as_located place) (demand_of (setting_in layout.now unit) value.now) rest.now }
-    ensures asks { Asks (length layout.now.first) (reads_in value.now) (length rest.now) result }
-    ensures lies { GivesWriteBelow (length layout.now.first) result }
+    requires storage { IsStorage program.now.layout }
+    requires meaning { IsTrue (expr_has_meaning program.now.layout unit value.now) }
+    requires lies { place.address < length program.now.layout.first }
+    ensures value { written_demand result ≡ plainly (as_located program.now.layout place) (demand_of (setting_in program.now unit) value.now) rest.now }
+    ensures asks { Asks (length program.now.layout.first) (reads_in value.now) (length rest.now) result }
+    ensures lies { GivesWriteBelow (length program.now.layout.first) result }
 {
-    match demand(layout, unit, value, rest) {
+    match demand(program, unit, value, rest) {
         Evaluated::Gives(number, more) => {
             let written = Written {
                 address: place.address,
@@ -87,7 +87,7 @@ fn plain<'a>(
 /// What an accumulation writes. `first` is what the right side gives with 0 for the value of its left side, which tells
 /// whether all else was read; then the left side itself is read, and takes the value of the right side.
 fn accumulated<'a>(
-    layout: &Layout,
+    program: &Program,
     unit: u32,
     target: &Ref,
     value: &Expr,
@@ -95,18 +95,18 @@ fn accumulated<'a>(
     first: Valued<'a>,
     rest: &'a [i64],
 ) -> Evaluated<'a, Written>
-    requires storage { IsStorage layout.now }
-    requires meaning { IsTrue (expr_has_meaning layout.now unit value.now) }
-    requires lies { place.address < length layout.now.first }
-    requires first { Some (as_valued first) ≡ option_map (accumulation_at (pos 0) rest.now) (accumulation_of (setting_in layout.now unit) target.now value.now) }
-    requires asked { Asks (length layout.now.first) (reads_in value.now) (1 + length rest.now) first.value }
-    ensures value { (a : Accumulation) → accumulation_of (setting_in layout.now unit) target.now value.now ≡ Some a → written_demand result ≡ accumulated (as_located place) a rest.now }
-    ensures asks { Asks (length layout.now.first) (reads_in value.now) (length rest.now) result }
-    ensures lies { GivesWriteBelow (length layout.now.first) result }
+    requires storage { IsStorage program.now.layout }
+    requires meaning { IsTrue (expr_has_meaning program.now.layout unit value.now) }
+    requires lies { place.address < length program.now.layout.first }
+    requires first { Some (as_valued first) ≡ option_map (accumulation_at (pos 0) rest.now) (accumulation_of (setting_in program.now unit) target.now value.now) }
+    requires asked { Asks (length program.now.layout.first) (reads_in value.now) (1 + length rest.now) first.value }
+    ensures value { (a : Accumulation) → accumulation_of (setting_in program.now unit) target.now value.now ≡ Some a → written_demand result ≡ accumulated (as_located program.now.layout place) a rest.now }
+    ensures asks { Asks (length program.now.layout.first) (reads_in value.now) (length rest.now) result }
+    ensures lies { GivesWriteBelow (length program.now.layout.first) result }
 {
     match first.value {
         Evaluated::Gives(_unread, more) => match more.split_first() {
-            Some((x, left)) => match held(layout, unit, target, value, *x, rest) {
+            Some((x, left)) => match held(program, unit, target, value, *x, rest) {
                 Some(now) => match now.value {
                     Evaluated::Gives(number, _unused) => {
                         let written = Written {

@@ -1,10 +1,11 @@
 //! The DO statement: the values of its parameters (ANSI X3.9-1978, section 11.10.3).
-ghost use Rattle.std.specs.Prelude.{◌≡◌, ◌+◌, IsTrue, length};
+ghost use Rattle.std.specs.Prelude.{◌≡◌, ◌+◌, ℕ, IsTrue, length};
 ghost use Rattle.f77_ast.specs.Entity.{entity_in};
 ghost use Rattle.f77_structure.specs.HasMeaning.{control_has_meaning, expr_has_meaning, increment_has_meaning, is_integer_variable};
 ghost use Rattle.f77_structure.specs.Storage.{IsStorage};
 ghost use Rattle.f77_meaning.specs.Demand.{and_then, located, number_demand};
 ghost use Rattle.f77_meaning.specs.Do.{begun_of, begun_with, increment_of};
+ghost use Rattle.f77_meaning.specs.Process.{placed};
 ghost use Rattle.f77_machine.specs.Begun.{begun_demand, as_parameters, GivesVariableBelow};
 ghost use Rattle.f77_machine.specs.Evaluated.{as_demand, Asks};
 ghost use Rattle.f77_machine.specs.Reads.{reads_in, increment_reads, control_reads};
@@ -17,7 +18,7 @@ use crate::place::{entity, variable};
 use f77_ast::expr::Expr;
 use f77_ast::fault::Fault;
 use f77_ast::name::Name;
-use f77_ast::program::Layout;
+use f77_ast::program::Program;
 use f77_ast::stmt::LoopControl;
 
 /// A DO statement that begins.
@@ -37,21 +38,21 @@ pub struct Begun {
 /// write. An incrementation parameter of 0 is a fault, and so is a count, or a value at the end of the loop, that
 /// isn't from -2^63 to 2^63 - 1.
 pub fn begin<'a>(
-    layout: &Layout,
+    program: &Program,
     unit: u32,
     control: &LoopControl,
     answers: &'a [i64],
 ) -> Evaluated<'a, Begun>
-    requires storage { IsStorage layout.now }
-    requires meaning { IsTrue (control_has_meaning layout.now unit control.now) }
-    ensures value { begun_demand result ≡ begun_of (setting_in layout.now unit) control.now answers.now }
-    ensures asks { Asks (length layout.now.first) (control_reads control.now) (length answers.now) result }
-    ensures lies { GivesVariableBelow (length layout.now.first) result }
+    requires storage { IsStorage program.now.layout }
+    requires meaning { IsTrue (control_has_meaning program.now.layout unit control.now) }
+    ensures value { begun_demand result ≡ begun_of (setting_in program.now unit) control.now answers.now }
+    ensures asks { Asks (length program.now.layout.first) (control_reads control.now) (length answers.now) result }
+    ensures lies { GivesVariableBelow (length program.now.layout.first) result }
 {
-    match demand(layout, unit, &control.first, answers) {
-        Evaluated::Gives(first, rest) => match demand(layout, unit, &control.last, rest) {
+    match demand(program, unit, &control.first, answers) {
+        Evaluated::Gives(first, rest) => match demand(program, unit, &control.last, rest) {
             Evaluated::Gives(last, more) => match increment(
-                layout,
+                program,
                 unit,
                 &control.increment,
                 more,
@@ -62,7 +63,7 @@ pub fn begin<'a>(
                         last,
                         increment,
                     };
-                    begin_by(layout, unit, &control.variable, parameters, left)
+                    begin_by(program, unit, &control.variable, parameters, left)
                 }
                 Evaluated::Wants(address, by) => Evaluated::Wants(address, by),
                 Evaluated::Fails(fault) => Evaluated::Fails(fault),
@@ -77,38 +78,38 @@ pub fn begin<'a>(
 
 /// The incrementation parameter: 1 where it is left out.
 fn increment<'a>(
-    layout: &Layout,
+    program: &Program,
     unit: u32,
     increment: &Option<Expr>,
     answers: &'a [i64],
 ) -> Evaluated<'a, i64>
-    requires storage { IsStorage layout.now }
-    requires meaning { IsTrue (increment_has_meaning layout.now unit increment.now) }
-    ensures value { as_demand result ≡ increment_of (setting_in layout.now unit) increment.now answers.now }
-    ensures asks { Asks (length layout.now.first) (increment_reads increment.now) (length answers.now) result }
+    requires storage { IsStorage program.now.layout }
+    requires meaning { IsTrue (increment_has_meaning program.now.layout unit increment.now) }
+    ensures value { as_demand result ≡ increment_of (setting_in program.now unit) increment.now answers.now }
+    ensures asks { Asks (length program.now.layout.first) (increment_reads increment.now) (length answers.now) result }
 {
     match increment {
         None => Evaluated::Gives(1, answers),
-        Some(increment) => demand(layout, unit, increment, answers),
+        Some(increment) => demand(program, unit, increment, answers),
     }
 }
 
 /// What a DO statement of this variable evaluates to, where its parameters are known.
 fn begin_by<'a>(
-    layout: &Layout,
+    program: &Program,
     unit: u32,
     name: &Name,
     parameters: Parameters,
     rest: &'a [i64],
 ) -> Evaluated<'a, Begun>
-    requires storage { IsStorage layout.now }
-    requires meaning { IsTrue (is_integer_variable (entity_in layout.now.entities unit name.now)) }
+    requires storage { IsStorage program.now.layout }
+    requires meaning { IsTrue (is_integer_variable (entity_in program.now.layout.entities unit name.now)) }
     ensures value { begun_demand result
-        ≡ and_then (located (entity_in layout.now.entities unit name.now) None rest.now) (λ variable more. begun_with variable.address (as_parameters parameters) more) }
-    ensures asks { Asks (length layout.now.first) 0 (length rest.now) result }
-    ensures lies { GivesVariableBelow (length layout.now.first) result }
+        ≡ and_then (located (setting_in program.now unit) (entity_in program.now.layout.entities unit name.now) None rest.now) (λ variable more. begun_with variable.bound (as_parameters parameters) more) }
+    ensures asks { Asks (length program.now.layout.first) 0 (length rest.now) result }
+    ensures lies { GivesVariableBelow (length program.now.layout.first) result }
 {
-    match entity(layout, unit, name) {
+    match entity(&program.layout, unit, name) {
         None => Evaluated::Fails(Fault::Subscript),
         Some(entity) => match variable(entity, rest) {
             Evaluated::Gives(place, more) => begin_at(place.address, parameters, more),
@@ -120,7 +121,7 @@ fn begin_by<'a>(
 
 /// What a DO statement evaluates to, where its parameters and its variable's address are known.
 fn begin_at<'a>(variable: u32, parameters: Parameters, rest: &'a [i64]) -> Evaluated<'a, Begun>
-    ensures value { begun_demand result ≡ begun_with variable (as_parameters parameters) rest.now }
+    ensures value { (region len : ℕ) → begun_demand result ≡ begun_with (placed variable region len) (as_parameters parameters) rest.now }
     ensures asks { Asks 0 0 (length rest.now) result }
     ensures lies { GivesVariableBelow (variable + 1) result }
 {

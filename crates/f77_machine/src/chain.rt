@@ -14,7 +14,7 @@ ghost use Rattle.f77_machine.specs.Setting.{setting_in};
 use crate::demand::demand;
 use crate::evaluated::Evaluated;
 use f77_ast::expr::{Expr, Op, Ref};
-use f77_ast::program::Layout;
+use f77_ast::program::Program;
 use f77_trees::same::same_ref;
 use hyb_base::ops::RedOp;
 use hyb_base::wrap::{wrap_add, wrap_mul, wrap_sub};
@@ -163,29 +163,29 @@ pub struct Valued<'a> {
 /// The operator of an accumulation and the value of its right side, where `v` has the value `x` and isn't read: none
 /// where the assignment is no accumulation. The first form that fits counts.
 pub fn held<'a>(
-    layout: &Layout,
+    program: &Program,
     unit: u32,
     v: &Ref,
     expr: &Expr,
     x: i64,
     answers: &'a [i64],
 ) -> Option<Valued<'a>>
-    requires storage { IsStorage layout.now }
-    requires meaning { IsTrue (expr_has_meaning layout.now unit expr.now) }
-    ensures value { option_map as_valued result ≡ option_map (accumulation_at x answers.now) (accumulation_of (setting_in layout.now unit) v.now expr.now) }
-    ensures asks { IfSome result (λ a. Asks (length layout.now.first) (reads_in expr.now) (1 + length answers.now) a.value) }
+    requires storage { IsStorage program.now.layout }
+    requires meaning { IsTrue (expr_has_meaning program.now.layout unit expr.now) }
+    ensures value { option_map as_valued result ≡ option_map (accumulation_at x answers.now) (accumulation_of (setting_in program.now unit) v.now expr.now) }
+    ensures asks { IfSome result (λ a. Asks (length program.now.layout.first) (reads_in expr.now) (1 + length answers.now) a.value) }
 {
-    match chained(layout, unit, v, Chain::Sum, expr, x, answers) {
+    match chained(program, unit, v, Chain::Sum, expr, x, answers) {
         Some(value) => Some(Valued {
             op: RedOp::Add,
             value,
         }),
-        None => match chained(layout, unit, v, Chain::Product, expr, x, answers) {
+        None => match chained(program, unit, v, Chain::Product, expr, x, answers) {
             Some(value) => Some(Valued {
                 op: RedOp::Mul,
                 value,
             }),
-            None => last(layout, unit, v, expr, x, answers),
+            None => last(program, unit, v, expr, x, answers),
         },
     }
 }
@@ -193,7 +193,7 @@ pub fn held<'a>(
 /// The value of a chain whose leftmost operand is `v`: none where the expression is no such chain.
 #[tactic(auto, using(crate::proofs::Chains::chain_unfolds, crate::proofs::Chains::chain_none, crate::proofs::Chains::longer_at))]
 fn chained<'a>(
-    layout: &Layout,
+    program: &Program,
     unit: u32,
     v: &Ref,
     which: Chain,
@@ -201,38 +201,38 @@ fn chained<'a>(
     x: i64,
     answers: &'a [i64],
 ) -> Option<Evaluated<'a, i64>>
-    requires storage { IsStorage layout.now }
-    requires meaning { IsTrue (expr_has_meaning layout.now unit expr.now) }
-    ensures value { option_map as_demand result ≡ option_map (held_at x answers.now) (chain_of (setting_in layout.now unit) v.now (stands_in which) expr.now) }
-    ensures asks { IfSome result (Asks (length layout.now.first) (reads_in expr.now) (1 + length answers.now)) }
+    requires storage { IsStorage program.now.layout }
+    requires meaning { IsTrue (expr_has_meaning program.now.layout unit expr.now) }
+    ensures value { option_map as_demand result ≡ option_map (held_at x answers.now) (chain_of (setting_in program.now unit) v.now (stands_in which) expr.now) }
+    ensures asks { IfSome result (Asks (length program.now.layout.first) (reads_in expr.now) (1 + length answers.now)) }
 {
     let Operation { op, left, right } = outermost(expr)?;
     if !stands_in(which, op) {
         return None;
     }
     if is_v(v, left) {
-        return Some(before(layout, unit, op, x, right, answers));
+        return Some(before(program, unit, op, x, right, answers));
     }
-    let inner = chained(layout, unit, v, which, left, x, answers);
-    longer(layout, unit, op, inner, right)
+    let inner = chained(program, unit, v, which, left, x, answers);
+    longer(program, unit, op, inner, right)
 }
 
 /// The value of a chain, where there is one, and one operand more to its right.
 fn longer<'a>(
-    layout: &Layout,
+    program: &Program,
     unit: u32,
     op: Op,
     inner: Option<Evaluated<'a, i64>>,
     right: &Expr,
 ) -> Option<Evaluated<'a, i64>>
-    requires storage { IsStorage layout.now }
-    requires meaning { IsTrue (expr_has_meaning layout.now unit right.now) }
-    ensures value { option_map as_demand result ≡ option_map (λ d. and_then d (with_operand op (number_demand (setting_in layout.now unit) right.now))) (option_map as_demand inner.entry) }
-    ensures asks { (need known : ℕ) → IfSome inner.entry (Asks (length layout.now.first) need known)
-        → IfSome result (Asks (length layout.now.first) (need + reads_in right.now) known) }
+    requires storage { IsStorage program.now.layout }
+    requires meaning { IsTrue (expr_has_meaning program.now.layout unit right.now) }
+    ensures value { option_map as_demand result ≡ option_map (λ d. and_then d (with_operand op (number_demand (setting_in program.now unit) right.now))) (option_map as_demand inner.entry) }
+    ensures asks { (need known : ℕ) → IfSome inner.entry (Asks (length program.now.layout.first) need known)
+        → IfSome result (Asks (length program.now.layout.first) (need + reads_in right.now) known) }
 {
     match inner? {
-        Evaluated::Gives(z, rest) => Some(before(layout, unit, op, z, right, rest)),
+        Evaluated::Gives(z, rest) => Some(before(program, unit, op, z, right, rest)),
         Evaluated::Wants(address, by) => Some(Evaluated::Wants(address, by)),
         Evaluated::Fails(fault) => Some(Evaluated::Fails(fault)),
     }
@@ -240,24 +240,24 @@ fn longer<'a>(
 
 /// The operator and the value of `e op v`: none where the expression is no such one.
 fn last<'a>(
-    layout: &Layout,
+    program: &Program,
     unit: u32,
     v: &Ref,
     expr: &Expr,
     x: i64,
     answers: &'a [i64],
 ) -> Option<Valued<'a>>
-    requires storage { IsStorage layout.now }
-    requires meaning { IsTrue (expr_has_meaning layout.now unit expr.now) }
-    ensures value { option_map as_valued result ≡ option_map (accumulation_at x answers.now) (last_by (setting_in layout.now unit) v.now (operation_of expr.now)) }
-    ensures asks { IfSome result (λ a. Asks (length layout.now.first) (reads_in expr.now) (1 + length answers.now) a.value) }
+    requires storage { IsStorage program.now.layout }
+    requires meaning { IsTrue (expr_has_meaning program.now.layout unit expr.now) }
+    ensures value { option_map as_valued result ≡ option_map (accumulation_at x answers.now) (last_by (setting_in program.now unit) v.now (operation_of expr.now)) }
+    ensures asks { IfSome result (λ a. Asks (length program.now.layout.first) (reads_in expr.now) (1 + length answers.now) a.value) }
 {
     let Operation { op, left, right } = outermost(expr)?;
     let by = exchanged(op)?;
     if is_v(v, right) {
         Some(Valued {
             op: by,
-            value: after(layout, unit, op, left, x, answers),
+            value: after(program, unit, op, left, x, answers),
         })
     } else {
         None
@@ -266,19 +266,19 @@ fn last<'a>(
 
 /// An operator between a value and an operand to its right.
 fn before<'a>(
-    layout: &Layout,
+    program: &Program,
     unit: u32,
     op: Op,
     x: i64,
     right: &Expr,
     answers: &'a [i64],
 ) -> Evaluated<'a, i64>
-    requires storage { IsStorage layout.now }
-    requires meaning { IsTrue (expr_has_meaning layout.now unit right.now) }
-    ensures value { as_demand result ≡ with_operand op (number_demand (setting_in layout.now unit) right.now) x answers.now }
-    ensures asks { Asks (length layout.now.first) (reads_in right.now) (length answers.now) result }
+    requires storage { IsStorage program.now.layout }
+    requires meaning { IsTrue (expr_has_meaning program.now.layout unit right.now) }
+    ensures value { as_demand result ≡ with_operand op (number_demand (setting_in program.now unit) right.now) x answers.now }
+    ensures asks { Asks (length program.now.layout.first) (reads_in right.now) (length answers.now) result }
 {
-    match demand(layout, unit, right, answers) {
+    match demand(program, unit, right, answers) {
         Evaluated::Gives(y, rest) => Evaluated::Gives(joined(op, x, y), rest),
         Evaluated::Wants(address, by) => Evaluated::Wants(address, by),
         Evaluated::Fails(fault) => Evaluated::Fails(fault),
@@ -287,19 +287,19 @@ fn before<'a>(
 
 /// An operator between an operand and a value to its right.
 fn after<'a>(
-    layout: &Layout,
+    program: &Program,
     unit: u32,
     op: Op,
     left: &Expr,
     x: i64,
     answers: &'a [i64],
 ) -> Evaluated<'a, i64>
-    requires storage { IsStorage layout.now }
-    requires meaning { IsTrue (expr_has_meaning layout.now unit left.now) }
-    ensures value { as_demand result ≡ held_at x answers.now (held_last op (number_demand (setting_in layout.now unit) left.now)) }
-    ensures asks { Asks (length layout.now.first) (reads_in left.now) (length answers.now) result }
+    requires storage { IsStorage program.now.layout }
+    requires meaning { IsTrue (expr_has_meaning program.now.layout unit left.now) }
+    ensures value { as_demand result ≡ held_at x answers.now (held_last op (number_demand (setting_in program.now unit) left.now)) }
+    ensures asks { Asks (length program.now.layout.first) (reads_in left.now) (length answers.now) result }
 {
-    match demand(layout, unit, left, answers) {
+    match demand(program, unit, left, answers) {
         Evaluated::Gives(y, rest) => Evaluated::Gives(joined(op, y, x), rest),
         Evaluated::Wants(address, by) => Evaluated::Wants(address, by),
         Evaluated::Fails(fault) => Evaluated::Fails(fault),

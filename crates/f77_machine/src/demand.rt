@@ -3,6 +3,7 @@ ghost use Rattle.std.specs.Prelude.{◌≡◌, ◌+◌, ◌<◌, ◌≤◌, ◌^
 ghost use Rattle.std.specs.Option.{option_map};
 ghost use Rattle.f77_ast.specs.declared.expr.Expr.{Binary};
 ghost use Rattle.f77_ast.specs.declared.expr.Kind.TheVariants.{Integer};
+ghost use Rattle.f77_ast.specs.declared.program.Layout.{Layout};
 ghost use Rattle.f77_structure.specs.HasMeaning.{expr_has_meaning, ref_has_meaning, names_integer};
 ghost use Rattle.f77_structure.specs.Storage.{IsStorage, LiesIn};
 ghost use Rattle.f77_structure.specs.Values.{integer, is_sign, is_arithmetic, number_or_zero_divisor, unary_of, binary_of};
@@ -15,38 +16,38 @@ use crate::evaluated::Evaluated;
 use crate::place::{Located, element, entity, variable};
 use f77_ast::expr::{Expr, Op, Ref};
 use f77_ast::fault::Fault;
-use f77_ast::program::{Entity, Layout};
+use f77_ast::program::{Entity, Program};
 use hyb_base::wrap::{wrap_add, wrap_div, wrap_mul, wrap_neg, wrap_pow, wrap_sub};
 use sqlite_items::Items;
 
 /// Evaluates an expression of type INTEGER in a unit from left to right, taking the values that it reads from the
 /// answers. A reference reads its subscript, and then its address.
 #[cycle(demand)]
-pub fn demand<'a>(layout: &Layout, unit: u32, expr: &Expr, answers: &'a [i64]) -> Evaluated<'a, i64>
-    requires storage { IsStorage layout.now }
-    requires meaning { IsTrue (expr_has_meaning layout.now unit expr.now) }
-    ensures value { value_demand result ≡ demand_of (setting_in layout.now unit) expr.now answers.now }
-    ensures asks { Asks (length layout.now.first) (reads_in expr.now) (length answers.now) result }
+pub fn demand<'a>(program: &Program, unit: u32, expr: &Expr, answers: &'a [i64]) -> Evaluated<'a, i64>
+    requires storage { IsStorage program.now.layout }
+    requires meaning { IsTrue (expr_has_meaning program.now.layout unit expr.now) }
+    ensures value { value_demand result ≡ demand_of (setting_in program.now unit) expr.now answers.now }
+    ensures asks { Asks (length program.now.layout.first) (reads_in expr.now) (length answers.now) result }
 {
     match expr {
         Expr::Int(value) => Evaluated::Gives(*value, answers),
         Expr::Truth(_) => unreachable!(),
         Expr::Chars(_) => unreachable!(),
-        Expr::Ref(reference) => match location(layout, unit, reference, answers) {
+        Expr::Ref(reference) => match location(program, unit, reference, answers) {
             Evaluated::Gives(place, rest) => integer_at(place, rest),
             Evaluated::Wants(address, by) => Evaluated::Wants(address, by),
             Evaluated::Fails(fault) => Evaluated::Fails(fault),
         },
-        Expr::Unary(op, operand) => match demand(layout, unit, operand.get(), answers) {
+        Expr::Unary(op, operand) => match demand(program, unit, operand.get(), answers) {
             Evaluated::Gives(x, rest) => unary(*op, x, rest),
             Evaluated::Wants(address, by) => Evaluated::Wants(address, by),
             Evaluated::Fails(fault) => Evaluated::Fails(fault),
         },
         Expr::Binary(op, left, right) => {
             let (left, right) = (left.get(), right.get());
-            operands_have_meaning(layout, unit, expr, *op, left, right);
-            match demand(layout, unit, left, answers) {
-                Evaluated::Gives(x, rest) => match demand(layout, unit, right, rest) {
+            operands_have_meaning(program, unit, expr, *op, left, right);
+            match demand(program, unit, left, answers) {
+                Evaluated::Gives(x, rest) => match demand(program, unit, right, rest) {
                     Evaluated::Gives(y, more) => binary(*op, x, y, more),
                     Evaluated::Wants(address, by) => Evaluated::Wants(address, by),
                     Evaluated::Fails(fault) => Evaluated::Fails(fault),
@@ -55,37 +56,37 @@ pub fn demand<'a>(layout: &Layout, unit: u32, expr: &Expr, answers: &'a [i64]) -
                 Evaluated::Fails(fault) => Evaluated::Fails(fault),
             }
         }
-        Expr::Paren(inner) => demand(layout, unit, inner.get(), answers),
+        Expr::Paren(inner) => demand(program, unit, inner.get(), answers),
     }
 }
 
 /// A law for the prover, which does nothing: where an operator with two operands has a meaning, it is arithmetic, and its
 /// operands have one.
-fn operands_have_meaning(layout: &Layout, unit: u32, expr: &Expr, op: Op, left: &Expr, right: &Expr)
+fn operands_have_meaning(program: &Program, unit: u32, expr: &Expr, op: Op, left: &Expr, right: &Expr)
     requires is { expr.now ≡ Binary op left.now right.now }
-    requires meaning { IsTrue (expr_has_meaning layout.now unit expr.now) }
+    requires meaning { IsTrue (expr_has_meaning program.now.layout unit expr.now) }
     ensures op { IsTrue (is_arithmetic op) }
-    ensures left { IsTrue (expr_has_meaning layout.now unit left.now) }
-    ensures right { IsTrue (expr_has_meaning layout.now unit right.now) }
+    ensures left { IsTrue (expr_has_meaning program.now.layout unit left.now) }
+    ensures right { IsTrue (expr_has_meaning program.now.layout unit right.now) }
 {}
 
 /// What a reference stands for: a variable, or an array's element, whose subscript is evaluated first
 /// and then checked (section 5.4).
 #[cycle(demand)]
 pub fn location<'a>(
-    layout: &Layout,
+    program: &Program,
     unit: u32,
     reference: &Ref,
     answers: &'a [i64],
 ) -> Evaluated<'a, Located>
-    requires storage { IsStorage layout.now }
-    requires meaning { IsTrue (ref_has_meaning layout.now unit reference.now) }
-    ensures value { located_demand result ≡ location_of (setting_in layout.now unit) reference.now answers.now }
-    ensures asks { Asks (length layout.now.first) (subscript_reads reference.now) (length answers.now) result }
-    ensures lies { GivesIntegerBelow (length layout.now.first) result }
+    requires storage { IsStorage program.now.layout }
+    requires meaning { IsTrue (ref_has_meaning program.now.layout unit reference.now) }
+    ensures value { located_demand program.now.layout result ≡ location_of (setting_in program.now unit) reference.now answers.now }
+    ensures asks { Asks (length program.now.layout.first) (subscript_reads reference.now) (length answers.now) result }
+    ensures lies { GivesIntegerBelow (length program.now.layout.first) result }
 {
-    match entity(layout, unit, &reference.name) {
-        Some(entity) => located(layout, unit, entity, &reference.args, answers),
+    match entity(&program.layout, unit, &reference.name) {
+        Some(entity) => located(program, unit, entity, &reference.args, answers),
         None => Evaluated::Fails(Fault::Subscript),
     }
 }
@@ -93,24 +94,24 @@ pub fn location<'a>(
 /// What an entity with such a list of subscripts stands for.
 #[cycle(demand)]
 fn located<'a>(
-    layout: &Layout,
+    program: &Program,
     unit: u32,
     entity: &Entity,
     args: &Option<Items<Expr>>,
     answers: &'a [i64],
 ) -> Evaluated<'a, Located>
-    requires storage { IsStorage layout.now }
-    requires lies { LiesIn (length layout.now.first) entity.now }
-    requires meaning { IsTrue (names_integer (Some entity.now) (option_map (map (expr_has_meaning layout.now unit)) args.now)) }
-    ensures value { located_demand result ≡ located (Some entity.now) (option_map (map (demand_of (setting_in layout.now unit))) args.now) answers.now }
-    ensures asks { Asks (length layout.now.first) (args_reads (option_map (map reads_in) args.now)) (length answers.now) result }
-    ensures lies { GivesIntegerBelow (length layout.now.first) result }
+    requires storage { IsStorage program.now.layout }
+    requires lies { LiesIn (length program.now.layout.first) entity.now }
+    requires meaning { IsTrue (names_integer (Some entity.now) (option_map (map (expr_has_meaning program.now.layout unit)) args.now)) }
+    ensures value { located_demand program.now.layout result ≡ located (setting_in program.now unit) (Some entity.now) (option_map (map (demand_of (setting_in program.now unit))) args.now) answers.now }
+    ensures asks { Asks (length program.now.layout.first) (args_reads (option_map (map reads_in) args.now)) (length answers.now) result }
+    ensures lies { GivesIntegerBelow (length program.now.layout.first) result }
 {
     match args {
         None => variable(entity, answers),
         Some(subscripts) => match subscripts.as_slice() {
             [] => Evaluated::Fails(Fault::Subscript),
-            [subscript] => match demand(layout, unit, subscript, answers) {
+            [subscript] => match demand(program, unit, subscript, answers) {
                 Evaluated::Gives(s, rest) => element(entity, s, rest),
                 Evaluated::Wants(address, by) => Evaluated::Wants(address, by),
                 Evaluated::Fails(fault) => Evaluated::Fails(fault),
@@ -124,7 +125,7 @@ fn located<'a>(
 #[tactic(auto, using(crate::proofs::Cells::one_cell))]
 fn integer_at<'a>(place: Located, rest: &'a [i64]) -> Evaluated<'a, i64>
     requires { place.kind ≡ Integer }
-    ensures value { value_demand result ≡ value_at (as_located place) rest.now }
+    ensures value { (layout : Layout) → value_demand result ≡ value_at (as_located layout place) rest.now }
     ensures asks { Asks (place.address + 1) 1 (length rest.now) result }
 {
     match rest.split_first() {

@@ -4,7 +4,7 @@ ghost use Rattle.std.specs.Option.{option_copied};
 ghost use Rattle.f77_ast.specs.Entity.{entity_in};
 ghost use Rattle.f77_structure.specs.HasMeaning.{is_integer_variable, is_integer_vector};
 ghost use Rattle.f77_structure.specs.Storage.{IsStorage, LiesIn, address_of_variable, address_of_element, start_of, storage_units_of};
-ghost use Rattle.f77_meaning.specs.Demand.{place_by, place_of};
+ghost use Rattle.f77_meaning.specs.Demand.{Setting, place_by, place_of};
 ghost use Rattle.f77_machine.specs.Evaluated.{as_located, located_demand, Asks, GivesIntegerBelow};
 
 use crate::evaluated::Evaluated;
@@ -37,7 +37,9 @@ pub fn entity<'l>(layout: &'l Layout, unit: u32, name: &Name) -> Option<&'l Enti
 
 /// The place of an entity at an address.
 fn place_of(entity: &Entity, address: u32) -> Located
-    ensures { as_located result ≡ place_of entity.now address }
+    ensures place { (s : Setting) → as_located s.program.layout result ≡ place_of s entity.now address }
+    ensures kind { result.kind ≡ entity.now.kind }
+    ensures address { result.address ≡ address }
 {
     Located {
         kind: entity.kind,
@@ -49,7 +51,7 @@ fn place_of(entity: &Entity, address: u32) -> Located
 /// A variable; what has a dimension is none.
 pub fn variable<'a>(entity: &Entity, rest: &'a [i64]) -> Evaluated<'a, Located>
     requires meaning { IsTrue (is_integer_variable (Some entity.now)) }
-    ensures value { located_demand result ≡ place_by entity.now (address_of_variable entity.now) rest.now }
+    ensures value { (s : Setting) → located_demand s.program.layout result ≡ place_by s entity.now (address_of_variable entity.now) rest.now }
     ensures asks { Asks 0 0 (length rest.now) result }
     ensures lies { GivesIntegerBelow (start_of entity.now + storage_units_of entity.now) result }
 {
@@ -63,7 +65,7 @@ pub fn variable<'a>(entity: &Entity, rest: &'a [i64]) -> Evaluated<'a, Located>
 pub fn element<'a>(entity: &Entity, subscript: i64, rest: &'a [i64]) -> Evaluated<'a, Located>
     requires meaning { IsTrue (is_integer_vector (Some entity.now)) }
     requires within { start_of entity.now + storage_units_of entity.now ≤ 2 ^ 32 }
-    ensures value { located_demand result ≡ place_by entity.now (address_of_element entity.now subscript) rest.now }
+    ensures value { (s : Setting) → located_demand s.program.layout result ≡ place_by s entity.now (address_of_element entity.now subscript) rest.now }
     ensures asks { Asks 0 0 (length rest.now) result }
     ensures lies { GivesIntegerBelow (start_of entity.now + storage_units_of entity.now) result }
 {

@@ -8,6 +8,7 @@ ghost use Rattle.f77_structure.specs.Storage.{IsStorage, start_of, storage_units
 ghost use Rattle.f77_meaning.specs.Demand.{demand_of};
 ghost use Rattle.f77_meaning.specs.Print.{after_elements, after_item, after_items, after_value, ask_element, next_cell, next_item, with_text};
 ghost use Rattle.f77_meaning.specs.Print as meaning;
+ghost use Rattle.f77_meaning.specs.Process.{Frame};
 ghost use Rattle.f77_io.specs.Line.{text_of};
 ghost use Rattle.f77_machine.specs.Print.{as_printing, as_printed, go_on, line_by, AsksWithin, BeginsWith, Follows, IsNext};
 ghost use Rattle.f77_machine.specs.Reads.{item_reads, most_reads, reads_in};
@@ -18,7 +19,7 @@ use crate::demand::demand;
 use crate::evaluated::Evaluated;
 use f77_ast::expr::Expr;
 use f77_ast::fault::Fault;
-use f77_ast::program::{Entity, Layout};
+use f77_ast::program::{Entity, Program};
 use f77_ast::stmt::Item;
 use f77_io::line::Line;
 use f77_structure::storage::start;
@@ -50,7 +51,7 @@ impl<'a> Printing<'a> {
     /// With its next item done: what the item read is forgotten.
     fn next_item(self) -> Printing<'a>
         requires { self.items + 1 < 2 ^ 64 }
-        ensures next { (line old : List ℕ) → as_printing result line ≡ next_item (as_printing self.entry old) line }
+        ensures next { (frame : Frame) (line old : List ℕ) → as_printing frame result line ≡ next_item (as_printing frame self.entry old) line }
         ensures is_next { IsNext self.entry result }
     {
         Printing {
@@ -63,7 +64,7 @@ impl<'a> Printing<'a> {
     /// With the next element of its array done.
     fn next_cell(self) -> Printing<'a>
         requires { self.cells + 1 < 2 ^ 64 }
-        ensures next { (line old : List ℕ) → as_printing result line ≡ next_cell (as_printing self.entry old) line }
+        ensures next { (frame : Frame) (line old : List ℕ) → as_printing frame result line ≡ next_cell (as_printing frame self.entry old) line }
         ensures answers { result.answers.now ≡ [] }
         ensures items { result.items ≡ self.entry.items }
     {
@@ -86,23 +87,23 @@ fn push(number: i64, line: &mut Line) -> Result<(), Fault>
 
 /// Adds the value of an expression, once it is known.
 fn print_value<'a>(
-    layout: &Layout,
+    program: &Program,
     unit: u32,
     expr: &Expr,
     at: Printing<'a>,
     line: &mut Line,
 ) -> Printed<'a>
-    requires storage { IsStorage layout.now }
-    requires meaning { IsTrue (expr_has_meaning layout.now unit expr.now) }
+    requires storage { IsStorage program.now.layout }
+    requires meaning { IsTrue (expr_has_meaning program.now.layout unit expr.now) }
     requires few { at.items + 1 < 2 ^ 64 }
     requires cells { at.cells < 2 ^ 32 }
-    ensures value { (go : meaning.Printing → meaning.Printed) → go_on result (text_of line.new) go
-        ≡ after_value (demand_of (setting_in layout.now unit) expr.now at.entry.answers.now) (as_printing at.entry (text_of line.old)) go }
-    ensures asks { AsksWithin (length layout.now.first) (reads_in expr.now) at.entry.answers.now result }
+    ensures value { (frame : Frame) (go : meaning.Printing → meaning.Printed) → go_on frame result (text_of line.new) go
+        ≡ after_value (demand_of (setting_in program.now unit) expr.now at.entry.answers.now) (as_printing frame at.entry (text_of line.old)) go }
+    ensures asks { AsksWithin (length program.now.layout.first) (reads_in expr.now) at.entry.answers.now result }
     ensures follows { Follows at.entry result }
     ensures begins { BeginsWith (text_of line.new) (text_of line.old) }
 {
-    match demand(layout, unit, expr, at.answers) {
+    match demand(program, unit, expr, at.answers) {
         Evaluated::Gives(number, _rest) => match push(number, line) {
             Ok(()) => Printed::GoesOn(at.next_item()),
             Err(fault) => Printed::Stops(fault),
@@ -117,7 +118,7 @@ fn ask_element<'a>(array: &Entity, at: Printing<'a>) -> Printed<'a>
     requires within { start_of array.now + storage_units_of array.now ≤ 2 ^ 32 }
     requires few { at.items + 1 < 2 ^ 64 }
     requires unread { at.answers.now ≡ [] }
-    ensures value { (go : meaning.Printing → meaning.Printed) (line : List ℕ) → go_on result line go ≡ ask_element array.now (as_printing at.entry line) go }
+    ensures value { (frame : Frame) (go : meaning.Printing → meaning.Printed) (line : List ℕ) → go_on frame result line go ≡ ask_element array.now (as_printing frame at.entry line) go }
     ensures asks { AsksWithin (start_of array.now + storage_units_of array.now) 1 at.entry.answers.now result }
     ensures follows { Follows at.entry result }
 {
@@ -135,8 +136,8 @@ fn print_element<'a>(array: &Entity, at: Printing<'a>, line: &mut Line) -> Print
     requires meaning { IsTrue (is_integer_vector (Some array.now)) }
     requires few { at.items + 1 < 2 ^ 64 }
     requires cells { at.cells < 2 ^ 32 }
-    ensures value { (go : meaning.Printing → meaning.Printed) → go_on result (text_of line.new) go
-        ≡ after_elements array.now at.entry.answers.now (as_printing at.entry (text_of line.old)) go }
+    ensures value { (frame : Frame) (go : meaning.Printing → meaning.Printed) → go_on frame result (text_of line.new) go
+        ≡ after_elements array.now at.entry.answers.now (as_printing frame at.entry (text_of line.old)) go }
     ensures asks { AsksWithin (start_of array.now + storage_units_of array.now) 1 at.entry.answers.now result }
     ensures follows { Follows at.entry result }
     ensures begins { BeginsWith (text_of line.new) (text_of line.old) }
@@ -152,26 +153,26 @@ fn print_element<'a>(array: &Entity, at: Printing<'a>, line: &mut Line) -> Print
 
 /// Goes on with one item: an array, or another expression.
 fn print_item<'a>(
-    layout: &Layout,
+    program: &Program,
     unit: u32,
     item: &Item,
     at: Printing<'a>,
     line: &mut Line,
 ) -> Printed<'a>
-    requires storage { IsStorage layout.now }
-    requires meaning { IsTrue (item_has_meaning layout.now unit item.now) }
+    requires storage { IsStorage program.now.layout }
+    requires meaning { IsTrue (item_has_meaning program.now.layout unit item.now) }
     requires few { at.items + 1 < 2 ^ 64 }
     requires cells { at.cells < 2 ^ 32 }
-    ensures value { (go : meaning.Printing → meaning.Printed) → go_on result (text_of line.new) go
-        ≡ after_item (setting_in layout.now unit) item.now (as_printing at.entry (text_of line.old)) go }
-    ensures asks { AsksWithin (length layout.now.first) (item_reads layout.now unit item.now) at.entry.answers.now result }
+    ensures value { (frame : Frame) (go : meaning.Printing → meaning.Printed) → go_on frame result (text_of line.new) go
+        ≡ after_item (setting_in program.now unit) item.now (as_printing frame at.entry (text_of line.old)) go }
+    ensures asks { AsksWithin (length program.now.layout.first) (item_reads program.now.layout unit item.now) at.entry.answers.now result }
     ensures follows { Follows at.entry result }
     ensures begins { BeginsWith (text_of line.new) (text_of line.old) }
 {
     match item {
-        Item::Plain(expr) => match array_named(layout, unit, expr) {
+        Item::Plain(expr) => match array_named(&program.layout, unit, expr) {
             Some(array) => print_element(array, at, line),
-            None => print_value(layout, unit, expr, at, line),
+            None => print_value(program, unit, expr, at, line),
         },
         Item::Implied(_, _) => unreachable!(),
     }
@@ -179,23 +180,23 @@ fn print_item<'a>(
 
 /// Goes on with items, from left to right.
 pub fn print_items<'a>(
-    layout: &Layout,
+    program: &Program,
     unit: u32,
     items: &[Item],
     from: Printing<'a>,
     line: &mut Line,
 ) -> Printed<'a>
-    requires storage { IsStorage layout.now }
-    requires meaning { IsTrue (list_all (item_has_meaning layout.now unit) items.now) }
+    requires storage { IsStorage program.now.layout }
+    requires meaning { IsTrue (list_all (item_has_meaning program.now.layout unit) items.now) }
     requires few { from.items + length items.now < 2 ^ 64 }
     requires cells { from.cells < 2 ^ 32 }
-    ensures value { as_printed result (text_of line.new) ≡ after_items (setting_in layout.now unit) items.now (as_printing from.entry (text_of line.old)) }
-    ensures asks { AsksWithin (length layout.now.first) (most_reads layout.now unit items.now) from.entry.answers.now result }
+    ensures value { (frame : Frame) → as_printed frame result (text_of line.new) ≡ after_items (setting_in program.now unit) items.now (as_printing frame from.entry (text_of line.old)) }
+    ensures asks { AsksWithin (length program.now.layout.first) (most_reads program.now.layout unit items.now) from.entry.answers.now result }
     ensures begins { BeginsWith (text_of line.new) (text_of line.old) }
 {
     let mut at = from;
     for item in items {
-        match print_item(layout, unit, item, at, line) {
+        match print_item(program, unit, item, at, line) {
             Printed::GoesOn(next) => at = next,
             Printed::Asks(address, by, here) => return Printed::Asks(address, by, here),
             Printed::Stops(fault) => return Printed::Stops(fault),

@@ -83,7 +83,7 @@ impl Process {
     ghost use Rattle.f77_meaning.specs.Assign.{written_of};
     ghost use Rattle.f77_meaning.specs.Do.{active_from, begun_of};
     ghost use Rattle.f77_meaning.specs.Print.{printed_of};
-    ghost use Rattle.f77_meaning.specs.Process.{first_process, is_blocked, listed_at, with_done};
+    ghost use Rattle.f77_meaning.specs.Process.{first_process, is_blocked, listed_at, process_with, with_done};
     ghost use Rattle.f77_meaning.specs.Process as meaning;
     ghost use Rattle.f77_meaning.specs.Sound.{IsSound, Fits};
     ghost use Rattle.f77_meaning.specs.Step.{reading, writing, begin_move, do_move, increment_move, loop_of_do, past_do, past_statement, print_move, statement_move, unless_blocked, write_move};
@@ -294,13 +294,13 @@ impl Process {
         requires allowed { (address : ℕ) → IsTrue (C.may_get cells.old address) }
         requires after { self.old.at + 1 < 2 ^ 64 }
         ensures next { (input text : List ℕ) → outcome_left result self.new (C.values cells.new) (C.reads cells.new) input text
-            ≡ outcome_of_move (write_move (frame_of self.old) [] text (written_of (setting_in program.now.layout self.old.unit) target.now value.now self.old.answers.items)) self.old (C.values cells.old) (C.reads cells.old) input text }
+            ≡ outcome_of_move (write_move (frame_of self.old) [] text (written_of (setting_in program.now self.old.unit) target.now value.now self.old.answers.items)) self.old (C.values cells.old) (C.reads cells.old) input text }
         ensures fits { Fits program.now.layout (C.values cells.new) }
         ensures same_test { C.may_get cells.new ≡ C.may_get cells.old }
         ensures place { KeepsPlace program.now self.old self.new }
     {
         match assigned(
-            &program.layout,
+            program,
             self.unit,
             target,
             value,
@@ -318,7 +318,7 @@ impl Process {
         requires after { self.old.at + 1 < 2 ^ 64 }
         requires fits { Fits program.now.layout (C.values cells.old) }
         ensures next { (input text : List ℕ) → outcome_left result self.new (C.values cells.new) (C.reads cells.new) input text
-            ≡ outcome_of_move (unless_blocked (is_blocked written.address (frame_of self.old ∷ [])) (writing written.address written.value written.by None (past_statement (frame_of self.old) ∷ []))) self.old (C.values cells.old) (C.reads cells.old) input text }
+            ≡ outcome_of_move (unless_blocked (is_blocked written.address (frame_of self.old ∷ [])) (writing written.address written.value written.by None (process_with text (past_statement (frame_of self.old) ∷ [])))) self.old (C.values cells.old) (C.reads cells.old) input text }
         ensures fits { Fits program.now.layout (C.values cells.new) }
         ensures same_test { C.may_get cells.new ≡ C.may_get cells.old }
         ensures place { KeepsPlace program.now self.old self.new }
@@ -350,7 +350,7 @@ impl Process {
         requires few { statement_number program.now.units self.old.unit self.old.at + 1 < 2 ^ 32 }
         requires depth { length self.old.active.items < self.old.depth }
         ensures next { (input text : List ℕ) → outcome_left result self.new (C.values cells.new) (C.reads cells.new) input text
-            ≡ outcome_of_move (do_move (frame_of self.old) [] text (loop_of_do program.now self.old.unit self.old.at) (begun_of (setting_in program.now.layout self.old.unit) control.now self.old.answers.items)) self.old (C.values cells.old) (C.reads cells.old) input text }
+            ≡ outcome_of_move (do_move (frame_of self.old) [] text (loop_of_do program.now self.old.unit self.old.at) (begun_of (setting_in program.now self.old.unit) control.now self.old.answers.items)) self.old (C.values cells.old) (C.reads cells.old) input text }
         ensures fits { Fits program.now.layout (C.values cells.new) }
         ensures same_test { C.may_get cells.new ≡ C.may_get cells.old }
         ensures place { KeepsPlace program.now self.old self.new }
@@ -358,7 +358,7 @@ impl Process {
         let Some(found) = loop_of_do(program, self.unit, self.at) else {
             return Stepped::Ended;
         };
-        match begin(&program.layout, self.unit, control, self.answers.as_slice()) {
+        match begin(program, self.unit, control, self.answers.as_slice()) {
             Evaluated::Gives(begun, _rest) => self.begin_loop(program, *found, begun, cells),
             Evaluated::Wants(address, _by) => self.read(address, cells),
             Evaluated::Fails(fault) => Stepped::Faulted(fault),
@@ -378,7 +378,7 @@ impl Process {
         requires depth { length self.old.active.items < self.old.depth }
         requires fits { Fits program.now.layout (C.values cells.old) }
         ensures next { (input text : List ℕ) → outcome_left result self.new (C.values cells.new) (C.reads cells.new) input text
-            ≡ outcome_of_move (unless_blocked (is_blocked begun.variable (frame_of self.old ∷ [])) (writing begun.variable begun.first None (Some (Began found.ordinal)) (past_do (active_from self.old.at found (as_begun begun)) (frame_of self.old) ∷ []))) self.old (C.values cells.old) (C.reads cells.old) input text }
+            ≡ outcome_of_move (unless_blocked (is_blocked begun.variable (frame_of self.old ∷ [])) (writing begun.variable begun.first None (Some (Began found.ordinal)) (process_with text (past_do (active_from self.old.at found (as_begun begun)) (frame_of self.old) ∷ [])))) self.old (C.values cells.old) (C.reads cells.old) input text }
         ensures fits { Fits program.now.layout (C.values cells.new) }
         ensures same_test { C.may_get cells.new ≡ C.may_get cells.old }
         ensures place { KeepsPlace program.now self.old self.new }
@@ -411,7 +411,7 @@ impl Process {
         requires allowed { (address : ℕ) → IsTrue (C.may_get cells.old address) }
         requires after { self.old.at + 1 < 2 ^ 64 }
         ensures next { (input : List ℕ) → outcome_left result self.new (C.values cells.new) (C.reads cells.new) input (text_of line.new)
-            ≡ outcome_of_move (print_move (frame_of self.old) [] (text_of line.old) (printed_of (setting_in program.now.layout self.old.unit) items.now (frame_of self.old) (text_of line.old))) self.old (C.values cells.old) (C.reads cells.old) input (text_of line.old) }
+            ≡ outcome_of_move (print_move (frame_of self.old) [] (text_of line.old) (printed_of (setting_in program.now self.old.unit) items.now (frame_of self.old) (text_of line.old))) self.old (C.values cells.old) (C.reads cells.old) input (text_of line.old) }
         ensures fits { Fits program.now.layout (C.values cells.new) }
         ensures same_test { C.may_get cells.new ≡ C.may_get cells.old }
         ensures place { KeepsPlace program.now self.old self.new }
@@ -439,7 +439,7 @@ impl Process {
     fn printed<'a>(&'a self, program: &Program, items: &Items<Item>, line: &mut Line) -> Printed<'a>
         requires storage { IsStorage program.now.layout }
         requires meaning { IsTrue (list_all (item_has_meaning program.now.layout self.now.unit) items.now) }
-        ensures value { as_printed result (text_of line.new) ≡ printed_of (setting_in program.now.layout self.now.unit) items.now (frame_of self.now) (text_of line.old) }
+        ensures value { as_printed (frame_of self.now) result (text_of line.new) ≡ printed_of (setting_in program.now self.now.unit) items.now (frame_of self.now) (text_of line.old) }
         ensures asks { AsksWithin (length program.now.layout.first) (most_reads program.now.layout self.now.unit items.now) self.now.answers.items result }
         ensures begins { BeginsWith (text_of line.new) (text_of line.old) }
     {
@@ -449,7 +449,7 @@ impl Process {
             answers: self.answers.as_slice(),
         };
         let left = items_from(items.as_slice(), self.items);
-        print_items(&program.layout, self.unit, left, from, line)
+        print_items(program, self.unit, left, from, line)
     }
 
     /// Notes how far a statement is done, and keeps the first `kept` answers.

@@ -1,21 +1,28 @@
-use Rattle.std.proofs.Common.{◌≤◌, ◌∙◌, length, rules, arith, sym, subst}
+use Rattle.std.proofs.Common.{◌≤◌, ◌∙◌, length, rules, ap, arith, sym, subst}
 use Rattle.std.proofs.lemmas.Grind.{common_steps}
 use Rattle.f77_ast.specs.declared.expr.Expr.TheBlock as block
 use Rattle.f77_structure.specs.HasMeaning.{expr_has_meaning}
-use Rattle.f77_meaning.specs.Demand.{demand_of}
+use Rattle.f77_meaning.specs.Demand.{and_then, demand_of, value_at}
 use Rattle.f77_machine.specs.Setting.{setting_in}
-use Rattle.f77_machine.proofs.Meanings.{only_one, subscript_means, many_subscripts}
+use Rattle.f77_machine.proofs.Meanings.{only_one, reference_value, subscript_means, many_subscripts}
 use Rattle.f77_machine.proofs.demand.+demand.Goals as goal
 
 -- the subscript has a meaning
 pub located-demand-requires : goal.located-demand-requires
 unfolding block.the_depth
 located-demand-requires t c =
-    let means = subscript_means (expr_has_meaning c.args.layout.now c.args.unit) c.args.entity.now c.subscript-item.result c.in-Some.subscripts c.args.args.now c.in-Some.is
+    let means = subscript_means (expr_has_meaning c.args.program.now.layout c.args.unit) c.args.entity.now c.subscript-item.result c.in-Some.subscripts c.args.args.now c.in-Some.is
     (sym c.as_slice.ensures ∙ only_one c.as_slice.result.now c.subscript-item.result c.in-len1.len_at_least c.in-len1.len_below c.subscript-item.is) c.requires.meaning in
     (first_of (search rules, grind (arith, common_steps)), (c.requires.storage, means))
 
 pub located-returns-in-len2-up-clause-value : goal.located-returns-in-len2-up-clause-value
 located-returns-in-len2-up-clause-value t c =
-    sym (many_subscripts (demand_of (setting_in c.args.layout.now c.args.unit)) c.args.entity.now c.in-Some.subscripts c.args.args.now c.args.answers.now c.in-Some.is
+    sym (many_subscripts (setting_in c.args.program.now c.args.unit) c.args.entity.now c.in-Some.subscripts c.args.args.now c.args.answers.now c.in-Some.is
     (subst (λ xs. 2 ≤ length xs) c.as_slice.ensures c.in-len2-up.len_at_least))
+
+-- a reference's value is that of what it stands for
+pub demand-returns-in-Gives-clause-value : goal.demand-returns-in-Gives-clause-value
+demand-returns-in-Gives-clause-value t c =
+    c.integer_at.ensures.value c.args.program.now.layout
+    ∙ ap (λ d. and_then d value_at) c.in-Gives.ensures.value
+    ∙ reference_value (setting_in c.args.program.now c.args.unit) c.args.expr.now c.in-Ref.reference c.args.answers.now c.in-Ref.is

@@ -8,7 +8,7 @@ returns-in-Asks-clause-asks c =
     let asked = c.in-Asks.ensures.asks in
     record {
       within = asked.within;
-      room = omega (arith, asked.room, most_of c.args.layout.now c.args.unit c.loop-item.item-index c.args.items.now c.item-item.result c.loop-item-test.true c.item-item.is);
+      room = omega (arith, asked.room, most_of c.args.program.now.layout c.args.unit c.loop-item.item-index c.args.items.now c.item-item.result c.loop-item-test.true c.item-item.is);
       cells = asked.cells;
       kept = begins_along c.args.from.answers.now c.loop-item.at.answers.now c.in-Asks.here.answers.now c.loop-item.invariant.answers asked.kept;
     }

@@ -9,7 +9,7 @@ use Rattle.f77_machine.proofs.process.Process.assign.Goals as goal
 pub returns-in-Wants-clause-next : goal.returns-in-Wants-clause-next
 returns-in-Wants-clause-next g c = λ input text.
     let p = c.args.self.now in
-    let asked = c.in-Wants.ensures.value ∙ ap (written_of (setting_in c.args.program.now.layout p.unit) c.args.target.now c.args.value.now) c.as_slice.ensures.value in
+    let asked = c.in-Wants.ensures.value ∙ ap (written_of (setting_in c.args.program.now p.unit) c.args.target.now c.args.value.now) c.as_slice.ensures.value in
     c.read.ensures.next c.in-Wants._by (process_of p text) input text
     ∙ ap (λ d. outcome_of_move (write_move (frame_of p) [] text d) p (g.C.Cells.values c.args.cells.now) (g.C.Cells.reads c.args.cells.now) input text) asked
 
