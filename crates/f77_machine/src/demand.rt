@@ -23,7 +23,12 @@ use sqlite_items::Items;
 /// Evaluates an expression of type INTEGER in a unit from left to right, taking the values that it reads from the
 /// answers. A reference reads its subscript, and then its address.
 #[cycle(demand)]
-pub fn demand<'a>(program: &Program, unit: u32, expr: &Expr, answers: &'a [i64]) -> Evaluated<'a, i64>
+pub fn demand<'a>(
+    program: &Program,
+    unit: u32,
+    expr: &Expr,
+    answers: &'a [i64],
+) -> Evaluated<'a, i64>
     requires storage { IsStorage program.now.layout }
     requires meaning { IsTrue (expr_has_meaning program.now.layout unit expr.now) }
     ensures value { value_demand result ≡ demand_of (setting_in program.now unit) expr.now answers.now }
@@ -62,7 +67,14 @@ pub fn demand<'a>(program: &Program, unit: u32, expr: &Expr, answers: &'a [i64])
 
 /// A law for the prover, which does nothing: where an operator with two operands has a meaning, it is arithmetic, and its
 /// operands have one.
-fn operands_have_meaning(program: &Program, unit: u32, expr: &Expr, op: Op, left: &Expr, right: &Expr)
+fn operands_have_meaning(
+    program: &Program,
+    unit: u32,
+    expr: &Expr,
+    op: Op,
+    left: &Expr,
+    right: &Expr,
+)
     requires is { expr.now ≡ Binary op left.now right.now }
     requires meaning { IsTrue (expr_has_meaning program.now.layout unit expr.now) }
     ensures op { IsTrue (is_arithmetic op) }

@@ -299,13 +299,7 @@ impl Process {
         ensures same_test { C.may_get cells.new ≡ C.may_get cells.old }
         ensures place { KeepsPlace program.now self.old self.new }
     {
-        match assigned(
-            program,
-            self.unit,
-            target,
-            value,
-            self.answers.as_slice(),
-        ) {
+        match assigned(program, self.unit, target, value, self.answers.as_slice()) {
             Evaluated::Gives(written, _rest) => self.write(program, written, cells),
             Evaluated::Wants(address, _by) => self.read(address, cells),
             Evaluated::Fails(fault) => Stepped::Faulted(fault),

@@ -63,7 +63,7 @@ pub kept_when : (b : Bool) (r : Refusal) → when b r ≡ [] → b ≡ false
 kept_when true r e = absurd cc
 kept_when false r e = refl
 
-kept : (rule : Rule) (breaking : ℕ → Listed → List Listed → Bool) (place : ℕ) (unit : List Listed) → broken_by rule breaking place unit ≡ [] → (k : ℕ) (x : Listed) → slice_get unit k ≡ Some x → breaking (place + k) x (drop (suc k) unit) ≡ false
+pub kept : (rule : Rule) (breaking : ℕ → Listed → List Listed → Bool) (place : ℕ) (unit : List Listed) → broken_by rule breaking place unit ≡ [] → (k : ℕ) (x : Listed) → slice_get unit k ≡ Some x → breaking (place + k) x (drop (suc k) unit) ≡ false
 kept rule breaking place [] e k x h = absurd cc
 kept rule breaking place (y ∷ unit) e zero x h =
     let same : y ≡ x = cc in
@@ -224,20 +224,25 @@ unit_nests unit none =
       nested = nested_ranges unit ranges;
     }
 
-units_nest : (units : List ProgramUnit) → flat_map (λ unit. breaks_in unit.listing) units ≡ [] → All (λ unit. RangesNest unit.listing) units
-units_nest [] e = λ k d h. absurd (omega arith)
-units_nest (unit ∷ units) e =
-    All-cons (λ unit. RangesNest unit.listing) unit units
-    (unit_nests unit.listing (left_none (breaks_in unit.listing) (flat_map (λ unit. breaks_in unit.listing) units) e))
-    (units_nest units (right_none (breaks_in unit.listing) (flat_map (λ unit. breaks_in unit.listing) units) e))
+-- what each unit without a break keeps, each unit of an accepted file keeps
+module _ (P : List Listed → Type 0) (keeps : (unit : List Listed) → breaks_in unit ≡ [] → P unit) where
+  all_keep : (units : List ProgramUnit) → flat_map (λ unit. breaks_in unit.listing) units ≡ [] → All (λ unit. P unit.listing) units
+  all_keep [] e = λ k d h. absurd (omega arith)
+  all_keep (unit ∷ units) e =
+      All-cons (λ unit. P unit.listing) unit units
+      (keeps unit.listing (left_none (breaks_in unit.listing) (flat_map (λ unit. breaks_in unit.listing) units) e))
+      (all_keep units (right_none (breaks_in unit.listing) (flat_map (λ unit. breaks_in unit.listing) units) e))
+
+  pub units_keep : (statements : List Listed) (units : List ProgramUnit) → shape_of statements ≡ Ok units → All (λ unit. P unit.listing) units
+  units_keep statements units e =
+      let n : Nothing statements units = nothing_broken statements units e in
+      let us = units_of statements in
+      let among : breaks_among us ≡ [] = right_none (end_breaks statements ++ statement_breaks statements) (breaks_among us) n.none in
+      subst (λ (l : List ProgramUnit). All (λ unit. P unit.listing) l) n.made
+      (all_keep us (right_none (main_breaks us ++ unit_breaks us ++ name_breaks 0 us) (flat_map (λ unit. breaks_in unit.listing) us) among))
 
 pub ranges_nest : AcceptedRangesNest
-ranges_nest statements units e =
-    let n : Nothing statements units = nothing_broken statements units e in
-    let us = units_of statements in
-    let among : breaks_among us ≡ [] = right_none (end_breaks statements ++ statement_breaks statements) (breaks_among us) n.none in
-    subst (λ (l : List ProgramUnit). All (λ unit. RangesNest unit.listing) l) n.made
-    (units_nest us (right_none (main_breaks us ++ unit_breaks us ++ name_breaks 0 us) (flat_map (λ unit. breaks_in unit.listing) us) among))
+ranges_nest = units_keep RangesNest unit_nests
 
 -- ---- small files
 

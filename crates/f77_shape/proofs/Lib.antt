@@ -4,6 +4,7 @@ pub mod AddLemmas
 pub mod CountLemmas
 pub mod CrossingLemmas
 pub mod Firsts
+pub mod InOrder
 pub mod NameLemmas
 pub mod OpenerLemmas
 pub mod RuleLemmas

@@ -19,7 +19,7 @@ use Rattle.f77_ast.specs.declared.stmt.Stmt.{Stmt, Assign, Do, Continue, Print, 
 use Rattle.f77_structure.specs.Arrays.{if_array, array_named, array_of_ref, array_step, array_part, array_ref}
 use Rattle.f77_structure.specs.HasMeaning.{is_integer_variable, is_integer_vector, names_integer, meaning_step, meaning_part, meaning_ref, expr_has_meaning, ref_has_meaning, item_has_meaning, increment_has_meaning, control_has_meaning, statement_has_meaning}
 use Rattle.f77_structure.specs.Values.{is_integer_kind, is_sign, is_arithmetic}
-use Rattle.f77_structure.specs.Storage.{is_scalar, is_vector}
+use Rattle.f77_structure.specs.Storage.{is_scalar, is_stored, is_vector}
 use Rattle.f77_subset.specs.declared.mention.Mention.{Mention}
 use Rattle.f77_subset.specs.declared.mention.Standing.{Standing}
 use Rattle.f77_subset.specs.declared.mention.Standing.TheVariants.{Variable, Element, WholeItem}
@@ -199,16 +199,20 @@ module _ (layout : Layout) where
       kind : Bool
       kind = is_integer_kind entity.kind
 
+      stored : Bool
+      stored = is_stored entity.place
+
       scalar : Bool
-      scalar = kind && is_scalar entity.bounds
+      scalar = kind && (stored && is_scalar entity.bounds)
 
-      without : (a k : Bool) → (a || (k && false)) ≡ true → (a || false) ≡ true
-      without a true e = e
-      without a false e = e
+      without : (a k s : Bool) → (a || (k && (s && false))) ≡ true → (a || false) ≡ true
+      without a true true e = e
+      without a true false e = e
+      without a false s e = e
 
-      by : (v : Bool) → is_vector entity.bounds ≡ v → (scalar || (kind && v)) ≡ true → (scalar || is_integer_vector (if v then Some entity else None)) ≡ true
-      by true e f = ap (λ t. scalar || (kind && t)) e ∙ f
-      by false e f = without scalar kind f
+      by : (v : Bool) → is_vector entity.bounds ≡ v → (scalar || (kind && (stored && v))) ≡ true → (scalar || is_integer_vector (if v then Some entity else None)) ≡ true
+      by true e f = ap (λ t. scalar || (kind && (stored && t))) e ∙ f
+      by false e f = without scalar kind stored f
 
   value_means : (a : Expr) (o : Option (List ℕ)) → Lone o (expr_has_meaning layout 0 a) (array_named layout 0 a) → expr_is_built a ≡ true → list_all good (as_item o (mentions_in a)) ≡ true → (expr_has_meaning layout 0 a || is_integer_vector (array_named layout 0 a)) ≡ true
   value_means a None lone b g = or_left (expr_has_meaning layout 0 a) (is_integer_vector (array_named layout 0 a)) (tree_means a b g)

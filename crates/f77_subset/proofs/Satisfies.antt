@@ -21,7 +21,7 @@ use Rattle.f77_ast.specs.declared.specification.Declarator.{Declarator}
 use Rattle.f77_ast.specs.declared.stmt.Stmt.{Stmt, Declare}
 use Rattle.f77_structure.specs.HasMeaning.{statement_has_meaning}
 use Rattle.f77_structure.specs.Values.{is_integer_kind}
-use Rattle.f77_structure.specs.Storage.{span_of, extent_by, storage_units_by, is_scalar, is_vector, storage_units_of_all, region_of, LiesIn, IsStorage, IsLaidOut}
+use Rattle.f77_structure.specs.Storage.{span_of, extent_by, storage_units_by, is_scalar, is_stored, is_vector, storage_units_of_all, region_of, LiesIn, IsStorage, IsLaidOut}
 use Rattle.f77_structure.specs.declared.storage.Span.{Span}
 use Rattle.f77_subset.specs.declared.mention.Mention.{Mention}
 use Rattle.f77_subset.specs.declared.mention.Standing.{Standing}
@@ -126,32 +126,34 @@ scalar_is : (bounds : List Bound) → is_scalar bounds ≡ not (are_bounds bound
 scalar_is [] = refl
 scalar_is (b ∷ bounds) = refl
 
--- an INTEGER entity with these bounds is used well
-used_well : (entity : Entity) (bounds : List Bound) (standing : Standing) → is_integer_kind entity.kind ≡ true → entity.bounds ≡ bounds → nat_le 1 (storage_units_by bounds) ≡ true → may_stand (are_bounds bounds) standing ≡ true → good_by (Some entity) standing ≡ true
-used_well entity bounds Variable kind same has may = and_from (is_integer_kind entity.kind) (is_scalar entity.bounds) kind (ap is_scalar same ∙ scalar_is bounds ∙ may)
-used_well entity bounds Element kind same has may = and_from (is_integer_kind entity.kind) (is_vector entity.bounds) kind (ap is_vector same ∙ vector_is bounds has ∙ may)
-used_well entity bounds WholeItem kind same has may = (λ i. (kind i && is_scalar (same i)) || (kind i && is_vector (same i))) ∙ (λ i. scalar_is bounds i || vector_is bounds has i) ∙ by (are_bounds bounds)
+-- an INTEGER entity in storage with these bounds is used well
+used_well : (entity : Entity) (bounds : List Bound) (standing : Standing) → is_integer_kind entity.kind ≡ true → is_stored entity.place ≡ true → entity.bounds ≡ bounds → nat_le 1 (storage_units_by bounds) ≡ true → may_stand (are_bounds bounds) standing ≡ true → good_by (Some entity) standing ≡ true
+used_well entity bounds Variable kind stored same has may =
+    and_from (is_integer_kind entity.kind) (is_stored entity.place && is_scalar entity.bounds) kind (and_from (is_stored entity.place) (is_scalar entity.bounds) stored (ap is_scalar same ∙ scalar_is bounds ∙ may))
+used_well entity bounds Element kind stored same has may =
+    and_from (is_integer_kind entity.kind) (is_stored entity.place && is_vector entity.bounds) kind (and_from (is_stored entity.place) (is_vector entity.bounds) stored (ap is_vector same ∙ vector_is bounds has ∙ may))
+used_well entity bounds WholeItem kind stored same has may = (λ i. (kind i && (stored i && is_scalar (same i))) || (kind i && (stored i && is_vector (same i)))) ∙ (λ i. scalar_is bounds i || vector_is bounds has i) ∙ by (are_bounds bounds)
   where
     by : (t : Bool) → (not t || t) ≡ true
     by true = refl
     by false = refl
 
--- an entity that may be there is INTEGER
+-- an entity that may be there is INTEGER, and in storage
 abbrev IsInteger : Option Entity → Type 0
 IsInteger None = Unit {0}
-IsInteger (Some entity) = is_integer_kind entity.kind ≡ true
+IsInteger (Some entity) = (is_integer_kind entity.kind ≡ true) × (is_stored entity.place ≡ true)
 
 integer_found : (n : List ℕ) (at : ℕ) (ds : List Declarator) → IsInteger (entity_in (entities_from at ds) 0 n)
 integer_found n at [] = tt
 integer_found n at (d ∷ ds) = by (is_of n d) (integer_found n (at + storage_units_by d.bounds) ds)
   where
     by : (p : Bool) → IsInteger (entity_in (entities_from (at + storage_units_by d.bounds) ds) 0 n) → IsInteger (if p then Some (entity_at at d) else entity_in (entities_from (at + storage_units_by d.bounds) ds) 0 n)
-    by true rest = refl
+    by true rest = (refl, refl)
     by false rest = rest
 
 good_found : (o : Option Entity) (d : Declarator) (standing : Standing) → IsInteger o → option_map (λ e. e.bounds) o ≡ Some d.bounds → Has d ≡ true → may_stand (are_bounds d.bounds) standing ≡ true → good_by o standing ≡ true
 good_found None d standing kind e has may = cc
-good_found (Some entity) d standing kind e has may = let k : entity.bounds ≡ d.bounds = cc in used_well entity d.bounds standing kind k has may
+good_found (Some entity) d standing kind e has may = let k : entity.bounds ≡ d.bounds = cc in used_well entity d.bounds standing kind.0 kind.1 k has may
 
 -- whether a name stands there
 stands_undeclared : (m : Mention) (ms more : List Mention) → list_any (is_of m.name) (map undeclared (ms ++ m ∷ more)) ≡ true
