@@ -10,7 +10,7 @@ use Rattle.f77_meaning.specs.Assign.{Written, written_of}
 use Rattle.f77_meaning.specs.Demand.{Demand, gives, wants, calls, fails, setting_of}
 use Rattle.f77_meaning.specs.Do.{Begun, active_from, begun_of, turned}
 use Rattle.f77_meaning.specs.Print.{Printed, asks, enters, whole, stops, printed_of}
-use Rattle.f77_meaning.specs.Process.{ActiveLoop, Frame, Stage, at_statement, at_inner, at_entry, at_increment, come_to, is_blocked, listed_of}
+use Rattle.f77_meaning.specs.Process.{ActiveLoop, Frame, Stage, at_statement, at_inner, at_entry, at_increment, come_to, is_blocked, listed_of, process_with}
 use Rattle.f77_meaning.specs.Step.{Move, reading, writing, taking, moving, printing, ending, failing, do_move, frames_move, increment_move, is_terminal, listed_move, loop_of_do, past, past_do, past_increment, past_statement, print_move, stage_move, statement_move, unless_blocked, write_move}
 
 -- frames of which the last one has no answers
@@ -21,10 +21,10 @@ AreFresh (frame ∷ below) = frame.answers ≡ []
 -- the frames after a step are such
 abbrev pub LeavesFresh : Move → Type 0
 LeavesFresh (reading address by frame below line) = Unit {0}
-LeavesFresh (writing address value by control after) = AreFresh after
-LeavesFresh (taking address blocked after) = AreFresh after
-LeavesFresh (moving after) = AreFresh after
-LeavesFresh (printing text after) = AreFresh after
+LeavesFresh (writing address value by control after) = AreFresh after.frames
+LeavesFresh (taking address blocked after) = AreFresh after.frames
+LeavesFresh (moving after) = AreFresh after.frames
+LeavesFresh (printing text after) = AreFresh after.frames
 LeavesFresh ending = Unit {0}
 LeavesFresh (failing fault) = Unit {0}
 
@@ -62,7 +62,7 @@ module _ (program : Program) (frame : Frame) (below : List Frame) (line : List �
   printed (stops fault) = tt
 
   written : (d : Demand Written) → LeavesFresh (write_move frame below line d)
-  written (gives w rest) = unblocked (is_blocked w.address (frame ∷ below)) (writing w.address w.value w.by None (past_statement frame ∷ below)) (fresh_past frame.at frame.active frame)
+  written (gives w rest) = unblocked (is_blocked w.address (frame ∷ below)) (writing w.address w.value w.by None (process_with line (past_statement frame ∷ below))) (fresh_past frame.at frame.active frame)
   written (wants address by) = tt
   written (calls unit bindings) = tt
   written (fails fault) = tt
@@ -70,16 +70,16 @@ module _ (program : Program) (frame : Frame) (below : List Frame) (line : List �
   begun : (o : Option Loop) (d : Demand Begun) → LeavesFresh (do_move frame below line o d)
   begun None d = tt
   begun (Some loop) (gives b rest) =
-      unblocked (is_blocked b.variable (frame ∷ below)) (writing b.variable b.first None (Some (Began loop.ordinal)) (past_do (active_from frame.at loop b) frame ∷ below)) (fresh_past_do (active_from frame.at loop b) frame)
+      unblocked (is_blocked b.variable (frame ∷ below)) (writing b.variable b.first None (Some (Began loop.ordinal)) (process_with line (past_do (active_from frame.at loop b) frame ∷ below))) (fresh_past_do (active_from frame.at loop b) frame)
   begun (Some loop) (wants address by) = tt
   begun (Some loop) (calls unit bindings) = tt
   begun (Some loop) (fails fault) = tt
 
   stated : (s : Stmt) → LeavesFresh (statement_move frame below line program s)
-  stated (Assign target value) = written (written_of (setting_of program.layout frame) target value frame.answers)
-  stated (Do terminal control) = begun (loop_of_do program frame.unit frame.at) (begun_of (setting_of program.layout frame) control frame.answers)
+  stated (Assign target value) = written (written_of (setting_of program frame) target value frame.answers)
+  stated (Do terminal control) = begun (loop_of_do program frame.unit frame.at) (begun_of (setting_of program frame) control frame.answers)
   stated Continue = fresh_past frame.at frame.active frame
-  stated (Print items) = printed (printed_of (setting_of program.layout frame) items frame line)
+  stated (Print items) = printed (printed_of (setting_of program frame) items frame line)
   stated _ = tt
 
   here : (found : Option Listed) → LeavesFresh (listed_move frame below line program found)

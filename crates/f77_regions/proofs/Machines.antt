@@ -1,5 +1,5 @@
 -- The processes of a sound program are those of a machine.
-use Rattle.std.proofs.Common.{ℕ, ℤ, List, [], ◌∷◌, ◌≡◌, ◌⊎◌, inl, inr, Bool, true, false, Option, None, Some, if◌then◌else◌, refl, sym, ap, subst, ◌∙◌, arith}
+use Rattle.std.proofs.Common.{ℕ, ℤ, List, [], ◌∷◌, ◌≡◌, ◌⊎◌, inl, inr, Bool, true, false, Option, None, Some, if◌then◌else◌, refl, sym, ap, subst, ◌∙◌}
 use Rattle.hyb_base.specs.declared.ops.RedOp.{RedOp}
 use Rattle.hyb_base.proofs.Reductions.{operators_reduce}
 use Rattle.f77_ast.specs.declared.fault.Fault.TheVariants.{DoVariableWritten}
@@ -7,9 +7,9 @@ use Rattle.f77_ast.specs.declared.program.Program.{Program}
 use Rattle.f77_ast.specs.declared.step.Control.{Control}
 use Rattle.f77_meaning.specs.Event.{Event, reads, writes, takes, moves, prints, ends, faults}
 use Rattle.f77_meaning.specs.Laws.{CombinesWith}
-use Rattle.f77_meaning.specs.Process.{Frame, Process}
+use Rattle.f77_meaning.specs.Process.{Frame, Process, process_with}
 use Rattle.f77_meaning.specs.Sound.{IsOf, IsSound}
-use Rattle.f77_meaning.specs.Step.{Move, reading, writing, taking, moving, printing, ending, failing, done_by, event, event_of, move_of, once_done, process_with, resumed}
+use Rattle.f77_meaning.specs.Step.{Move, reading, writing, taking, moving, printing, ending, failing, done_by, event, event_of, move_of, once_done, resumed}
 use Rattle.f77_meaning.proofs.Marks.{accumulations_combine, plain_reads_lead_to_none, fresh_frames_write_none}
 use Rattle.f77_meaning.proofs.Stands.{IsOf-resumed, Leads, leads}
 use Rattle.interleaving.proofs.LoopBlocks.{loop_blocks_interleave, loop_blocks_are_whole}
@@ -50,10 +50,10 @@ writes_back ordinal (faults fault) a v by e = absurd (cc)
 -- a process that is done with its step is one of the program
 IsOf-done_by : (program : Program) (move : Move) (p : Process) → IsOf program p → Leads program move → IsOf program (done_by move p)
 IsOf-done_by program (reading address by frame below line) p is h = is
-IsOf-done_by program (writing address value by control after) p is h = record { some = h.some; frames = h.are; line = is.line }
-IsOf-done_by program (taking address blocked after) p is h = record { some = h.some; frames = h.are; line = is.line }
-IsOf-done_by program (moving after) p is h = record { some = h.some; frames = h.are; line = is.line }
-IsOf-done_by program (printing text after) p is h = record { some = h.some; frames = h.are; line = omega arith }
+IsOf-done_by program (writing address value by control after) p is h = h
+IsOf-done_by program (taking address blocked after) p is h = h
+IsOf-done_by program (moving after) p is h = h
+IsOf-done_by program (printing text after) p is h = h
 IsOf-done_by program ending p is h = is
 IsOf-done_by program (failing fault) p is h = is
 

@@ -14,13 +14,13 @@ use Rattle.f77_structure.specs.Storage.{IsStorage, LiesIn, is_vector}
 use Rattle.f77_meaning.specs.Demand.{Setting}
 use Rattle.f77_turns.proofs.Expressions.{found_lies}
 
-module _ (s : Setting) (storage : IsStorage s.layout) where
+module _ (s : Setting) (storage : IsStorage s.program.layout) where
   -- an entity, where there is one, lies in storage
   abbrev pub IfLies : Option Entity → Type 0
   IfLies None = Unit {0}
-  IfLies (Some entity) = LiesIn (length s.layout.first) entity
+  IfLies (Some entity) = LiesIn (length s.program.layout.first) entity
 
-  array_lies : (found : Option Entity) → ((entity : Entity) → found ≡ Some entity → LiesIn (length s.layout.first) entity) → IfLies (if_array found)
+  array_lies : (found : Option Entity) → ((entity : Entity) → found ≡ Some entity → LiesIn (length s.program.layout.first) entity) → IfLies (if_array found)
   array_lies None lies = tt
   array_lies (Some entity) lies = by (is_vector entity.bounds)
     where
@@ -28,19 +28,19 @@ module _ (s : Setting) (storage : IsStorage s.layout) where
       by true = lies entity refl
       by false = tt
 
-  alone_lies : (found : Option Entity) (args : Option (List (Option Entity))) (part : Option (Unit {0})) → ((entity : Entity) → found ≡ Some entity → LiesIn (length s.layout.first) entity) → IfLies (named_alone found args part)
+  alone_lies : (found : Option Entity) (args : Option (List (Option Entity))) (part : Option (Unit {0})) → ((entity : Entity) → found ≡ Some entity → LiesIn (length s.program.layout.first) entity) → IfLies (named_alone found args part)
   alone_lies found None None lies = array_lies found lies
   alone_lies found None (Some part) lies = tt
   alone_lies found (Some args) part lies = tt
 
   abbrev ExprLies : Expr → Type 0
-  ExprLies e = IfLies (array_named s.layout s.unit e)
+  ExprLies e = IfLies (array_named s.program.layout s.unit e)
 
   abbrev PartLies : Part → Type 0
   PartLies part = Unit {0}
 
   abbrev RefLies : Ref → Type 0
-  RefLies r = IfLies (array_of_ref s.layout s.unit r)
+  RefLies r = IfLies (array_of_ref s.program.layout s.unit r)
 
   abbrev SomeExpr : Type 0
   SomeExpr = (e : Expr) × ExprLies e
@@ -51,8 +51,8 @@ module _ (s : Setting) (storage : IsStorage s.layout) where
   abbrev SomeRef : Type 0
   SomeRef = (r : Ref) × RefLies r
 
-  of_layer : (z : Expr-F Expr Part Ref) → IfLies (array_step (map-Expr Expr Part Ref (Option Entity) (Unit {0}) (Option Entity) (array_named s.layout s.unit) (λ p. tt) (array_of_ref s.layout s.unit) z)) → ExprLies (roll-Expr z)
-  of_layer z h = subst IfLies (sym (fold-roll-Expr (Option Entity) (Unit {0}) (Option Entity) array_step array_part (array_ref s.layout s.unit) z)) h
+  of_layer : (z : Expr-F Expr Part Ref) → IfLies (array_step (map-Expr Expr Part Ref (Option Entity) (Unit {0}) (Option Entity) (array_named s.program.layout s.unit) (λ p. tt) (array_of_ref s.program.layout s.unit) z)) → ExprLies (roll-Expr z)
+  of_layer z h = subst IfLies (sym (fold-roll-Expr (Option Entity) (Unit {0}) (Option Entity) array_step array_part (array_ref s.program.layout s.unit) z)) h
 
   abbrev plain_expr : Expr-F SomeExpr SomePart SomeRef → Expr-F Expr Part Ref
   plain_expr = map-Expr SomeExpr SomePart SomeRef Expr Part Ref (λ e. e.0) (λ p. p.0) (λ r. r.0)
@@ -68,9 +68,9 @@ module _ (s : Setting) (storage : IsStorage s.layout) where
 
   ref_layer : (z : Ref-F Expr Part Ref) → RefLies (roll-Ref z)
   ref_layer z =
-      let r : Ref-F (Option Entity) (Unit {0}) (Option Entity) = map-Ref Expr Part Ref (Option Entity) (Unit {0}) (Option Entity) (array_named s.layout s.unit) (λ p. tt) (array_of_ref s.layout s.unit) z in
-      subst IfLies (sym (fold-roll-Ref (Option Entity) (Unit {0}) (Option Entity) array_step array_part (array_ref s.layout s.unit) z))
-      (alone_lies (entity_in s.layout.entities s.unit z.name) r.args r.part (found_lies s storage z.name))
+      let r : Ref-F (Option Entity) (Unit {0}) (Option Entity) = map-Ref Expr Part Ref (Option Entity) (Unit {0}) (Option Entity) (array_named s.program.layout s.unit) (λ p. tt) (array_of_ref s.program.layout s.unit) z in
+      subst IfLies (sym (fold-roll-Ref (Option Entity) (Unit {0}) (Option Entity) array_step array_part (array_ref s.program.layout s.unit) z))
+      (alone_lies (entity_in s.program.layout.entities s.unit z.name) r.args r.part (found_lies s storage z.name))
 
   -- the array that an expression names as a whole lies in storage
   pub named_lies : (e : Expr) → ExprLies e

@@ -4,6 +4,7 @@ pub mod Assigned
 pub mod Begun
 pub mod Cells
 pub mod DoStatements
+pub mod Ends
 pub mod Expressions
 pub mod Kept
 pub mod Loops

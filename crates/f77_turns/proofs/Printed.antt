@@ -16,14 +16,14 @@ use Rattle.f77_turns.proofs.Arrays.{IfLies, named_lies}
 use Rattle.f77_turns.proofs.Cells.{Any, Asks, both}
 use Rattle.f77_turns.proofs.Expressions.{demand_asks}
 
-module _ (s : Setting) (storage : IsStorage s.layout) where
+module _ (s : Setting) (storage : IsStorage s.program.layout) where
   abbrev total : ℕ
-  total = length s.layout.first
+  total = length s.program.layout.first
 
-  -- a PRINT asks for an address of storage, where it asks
+  -- a PRINT asks for an address of storage, where it asks, and enters no unit
   abbrev pub PrintsIn : Printed → Type 0
   PrintsIn (asks address by p) = address < total
-  PrintsIn (enters unit bindings p) = Unit {0}
+  PrintsIn (enters unit bindings p) = ⊥
   PrintsIn (whole line) = Unit {0}
   PrintsIn (stops fault) = Unit {0}
 
@@ -34,17 +34,17 @@ module _ (s : Setting) (storage : IsStorage s.layout) where
   value_in : (d : Demand Value) (p : Printing) (go : Printing → Printed) → Asks total Any d → ((q : Printing) → PrintsIn (go q)) → PrintsIn (after_value d p go)
   value_in (gives value rest) p go d h = limit_in (with_text p.line (text_of value)) (λ line. go (next_item p line)) (λ line. h (next_item p line))
   value_in (wants address by) p go d h = d
-  value_in (calls unit bindings) p go d h = tt
+  value_in (calls unit bindings) p go d h = d
   value_in (fails fault) p go d h = tt
 
   element_in : (array : Entity) → LiesIn total array → (p : Printing) (go : Printing → Printed) → ((q : Printing) → PrintsIn (go q)) → PrintsIn (ask_element array p go)
-  element_in array lies p go h = by (nat_lt p.cells (storage_units_of array)) refl
+  element_in array lies p go h = by (nat_lt p.frame.cells (storage_units_of array)) refl
     where
       less : (a b : ℕ) → nat_lt a b ≡ true → a < b
       less a b e = grind (arith, e)
 
-      by : (b : Bool) → nat_lt p.cells (storage_units_of array) ≡ b → PrintsIn (cond b (asks (start_of array + p.cells) None p) (go (next_item p p.line)))
-      by true e = omega (arith, lies.within, less p.cells (storage_units_of array) e)
+      by : (b : Bool) → nat_lt p.frame.cells (storage_units_of array) ≡ b → PrintsIn (cond b (asks (start_of array + p.frame.cells) None p) (go (next_item p p.line)))
+      by true e = omega (arith, lies.within, less p.frame.cells (storage_units_of array) e)
       by false e = h (next_item p p.line)
 
   elements_in : (array : Entity) → LiesIn total array → (answers : List ℤ) (p : Printing) (go : Printing → Printed) → ((q : Printing) → PrintsIn (go q)) → PrintsIn (after_elements array answers p go)
@@ -57,28 +57,28 @@ module _ (s : Setting) (storage : IsStorage s.layout) where
   either true b e f = refl
   either false b e f = let c : false ≡ true = sym f ∙ e in absurd (cc)
 
-  item_in : (i : Item) → IsTrue (item_has_meaning s.layout s.unit i) → (p : Printing) (go : Printing → Printed) → ((q : Printing) → PrintsIn (go q)) → PrintsIn (after_item s i p go)
-  item_in (item.Plain expr) m p go h = by (array_named s.layout s.unit expr) refl (named_lies s storage expr)
+  item_in : (i : Item) → IsTrue (item_has_meaning s.program.layout s.unit i) → (p : Printing) (go : Printing → Printed) → ((q : Printing) → PrintsIn (go q)) → PrintsIn (after_item s i p go)
+  item_in (item.Plain expr) m p go h = by (array_named s.program.layout s.unit expr) refl (named_lies s storage expr)
     where
-      by : (o : Option Entity) → array_named s.layout s.unit expr ≡ o → IfLies s storage o → PrintsIn (after_array_or_value o (demand_of s expr) p go)
-      by (Some array) e lies = elements_in array lies p.answers p go h
+      by : (o : Option Entity) → array_named s.program.layout s.unit expr ≡ o → IfLies s storage o → PrintsIn (after_array_or_value o (demand_of s expr) p go)
+      by (Some array) e lies = elements_in array lies p.frame.answers p go h
       by None e lies =
-          value_in (demand_of s expr p.answers) p go
-          (demand_asks s storage expr (either (expr_has_meaning s.layout s.unit expr) (is_integer_vector (array_named s.layout s.unit expr)) m (ap is_integer_vector e)) p.answers) h
+          value_in (demand_of s expr p.frame.answers) p go
+          (demand_asks s storage expr (either (expr_has_meaning s.program.layout s.unit expr) (is_integer_vector (array_named s.program.layout s.unit expr)) m (ap is_integer_vector e)) p.frame.answers) h
   item_in (item.Implied' items rest control) m p go h = h (next_item p p.line)
 
-  items_in : (items : List Item) → IsTrue (list_all (item_has_meaning s.layout s.unit) items) → (p : Printing) → PrintsIn (after_items s items p)
+  items_in : (items : List Item) → IsTrue (list_all (item_has_meaning s.program.layout s.unit) items) → (p : Printing) → PrintsIn (after_items s items p)
   items_in [] m p = tt
   items_in (first ∷ items) m p =
-      let tests : (item_has_meaning s.layout s.unit first ≡ true) × (list_all (item_has_meaning s.layout s.unit) items ≡ true) = both (item_has_meaning s.layout s.unit first) (list_all (item_has_meaning s.layout s.unit) items) m in
+      let tests : (item_has_meaning s.program.layout s.unit first ≡ true) × (list_all (item_has_meaning s.program.layout s.unit) items ≡ true) = both (item_has_meaning s.program.layout s.unit first) (list_all (item_has_meaning s.program.layout s.unit) items) m in
       item_in first tests.0 p (after_items s items) (items_in items tests.1)
 
   -- what holds of all items holds of those behind some
-  behind : (n : ℕ) (items : List Item) → IsTrue (list_all (item_has_meaning s.layout s.unit) items) → IsTrue (list_all (item_has_meaning s.layout s.unit) (drop n items))
+  behind : (n : ℕ) (items : List Item) → IsTrue (list_all (item_has_meaning s.program.layout s.unit) items) → IsTrue (list_all (item_has_meaning s.program.layout s.unit) (drop n items))
   behind zero items m = m
   behind (suc n) [] m = m
-  behind (suc n) (first ∷ items) m = behind n items (both (item_has_meaning s.layout s.unit first) (list_all (item_has_meaning s.layout s.unit) items) m).1
+  behind (suc n) (first ∷ items) m = behind n items (both (item_has_meaning s.program.layout s.unit first) (list_all (item_has_meaning s.program.layout s.unit) items) m).1
 
   -- what a PRINT reads lies in storage
-  pub printed_in : (items : List Item) → IsTrue (list_all (item_has_meaning s.layout s.unit) items) → (frame : Frame) (line : List ℕ) → PrintsIn (printed_of s items frame line)
-  printed_in items m frame line = items_in (drop frame.items items) (behind frame.items items m) (record { items = frame.items; cells = frame.cells; answers = frame.answers; line = line })
+  pub printed_in : (items : List Item) → IsTrue (list_all (item_has_meaning s.program.layout s.unit) items) → (frame : Frame) (line : List ℕ) → PrintsIn (printed_of s items frame line)
+  printed_in items m frame line = items_in (drop frame.items items) (behind frame.items items m) (record { frame = frame; line = line })

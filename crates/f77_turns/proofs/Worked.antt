@@ -3,8 +3,8 @@ use Rattle.std.proofs.Common.{◌≡◌, ℕ, pos, negsuc, List, [], ◌∷◌, 
 use Rattle.f77_ast.specs.declared.program.Program.{Program}
 use Rattle.f77_ast.specs.declared.step.Control.TheVariants.{Turned}
 use Rattle.f77_meaning.specs.Event.{writes}
-use Rattle.f77_meaning.specs.Process.{ActiveLoop, Frame, at_increment, at_statement, come_to, entering}
-use Rattle.f77_meaning.specs.Step.{event, once_done, process_with}
+use Rattle.f77_meaning.specs.Process.{ActiveLoop, Frame, at_increment, at_statement, come_to, entering, process_with}
+use Rattle.f77_meaning.specs.Step.{event, once_done}
 use Rattle.f77_turns.specs.Ordinals.{AllDiffer, ordinals_of}
 use Rattle.f77_turns.specs.Turns.{at_iteration}
 

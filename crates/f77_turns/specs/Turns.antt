@@ -1,7 +1,6 @@
 -- How a loop begins and turns, by the events of a process (ANSI X3.9-1978, sections 11.10.3 and 11.10.7).
 use Rattle.std.specs.Prelude.{◌≡◌, ◌≢◌, ◌<◌, ℕ, suc, ℤ, false, List, ◌∷◌, Option, None, Some}
 use Rattle.hyb_base.specs.declared.ops.RedOp.{RedOp}
-use Rattle.f77_ast.specs.declared.program.Layout.{Layout}
 use Rattle.f77_ast.specs.declared.program.Listed.{Listed}
 use Rattle.f77_ast.specs.declared.program.Loop.{Loop}
 use Rattle.f77_ast.specs.declared.program.Program.{Program}
@@ -11,9 +10,9 @@ use Rattle.f77_ast.specs.declared.stmt.Stmt.{Do}
 use Rattle.f77_meaning.specs.Demand.{gives, setting_of}
 use Rattle.f77_meaning.specs.Do.{Begun, active_from, begun_of, next_value, turned}
 use Rattle.f77_meaning.specs.Event.{writes}
-use Rattle.f77_meaning.specs.Process.{ActiveLoop, Frame, Process, Stage, at_increment, at_statement, come_to, is_blocked, listed_of}
+use Rattle.f77_meaning.specs.Process.{ActiveLoop, Frame, Process, Stage, at_increment, at_statement, come_to, is_blocked, listed_of, process_with}
 use Rattle.f77_meaning.specs.Sound.{IsOf, IsSound}
-use Rattle.f77_meaning.specs.Step.{event, loop_of_do, once_done, past_do, past_increment, process_with, resumed}
+use Rattle.f77_meaning.specs.Step.{event, loop_of_do, once_done, past_do, past_increment, resumed}
 
 -- the last frame of a process is at the incrementation processing of its innermost active loop
 pub record Turn (p : Process) : Type 0 where
@@ -40,7 +39,7 @@ pub record Beginning (program : Program) (p : Process) : Type 0 where
   pub here : listed_of program frame ≡ Some listed
   pub is_do : listed.stmt ≡ Do terminal control
   pub its : loop_of_do program frame.unit frame.at ≡ Some loop
-  pub known : begun_of (setting_of program.layout frame) control frame.answers ≡ gives begun rest
+  pub known : begun_of (setting_of program frame) control frame.answers ≡ gives begun rest
   pub free : is_blocked begun.variable p.frames ≡ false
 
 -- a step of a process leads to these frames and keeps the line
@@ -99,5 +98,5 @@ pub record IterationsBeginAlike : Type 0 where
   -- the frame after a turn, where an iteration is left
   pub next : (loop : ActiveLoop) (outer : List ActiveLoop) (frame : Frame) → suc loop.done < loop.count → past_increment (loop ∷ outer) frame ≡ at_iteration (suc loop.done) loop outer frame
   -- of two frames with the same unit, bindings and bounds, and of one loop at any two of its iterations, it is the same frame
-  pub alike : (layout : Layout) (done before : ℕ) (loop : ActiveLoop) (outer : List ActiveLoop) (frame other : Frame) → setting_of layout frame ≡ setting_of layout other →
+  pub alike : (program : Program) (done before : ℕ) (loop : ActiveLoop) (outer : List ActiveLoop) (frame other : Frame) → setting_of program frame ≡ setting_of program other →
       at_iteration done loop outer frame ≡ at_iteration done (with_done before loop) outer other

@@ -1,5 +1,6 @@
 //! Laws on steps: each a function with an empty body, whose contract is the law.
 ghost use Rattle.f77_turns.specs.Composed.{RunsCompose};
+ghost use Rattle.f77_turns.specs.Ends.{RunsEndAtEnd};
 ghost use Rattle.f77_turns.specs.Kept.{OnlyPrintsChangeLines, StepsKeepSettings};
 ghost use Rattle.f77_turns.specs.Ordinals.{DoStatementsHaveLoops, ActiveLoopsAreOfProgram, ActiveLoopsDiffer};
 ghost use Rattle.f77_turns.specs.Turns.{TurnsAreMarked, BeginningsAreMarked, TurnsClear, IterationsBeginAlike};
@@ -11,7 +12,7 @@ pub fn law_of_composed_runs()
     ensures { RunsCompose }
 {}
 
-/// A law: a step changes the line so far only where the last frame is at a PRINT.
+/// A law: a step changes the line so far only where the last frame is at a PRINT, or at one that a logical IF holds.
 pub fn law_of_lines()
     ensures { OnlyPrintsChangeLines }
 {}
@@ -64,4 +65,9 @@ pub fn law_of_iterations()
 /// A law: each address that an event reads, writes or takes a number for is one of storage.
 pub fn law_of_addresses()
     ensures { EventsLieInStorage }
+{}
+
+/// A law: a process ends the run only where its last frame is at an END (ANSI X3.9-1978, section 11.14).
+pub fn law_of_ends()
+    ensures { RunsEndAtEnd }
 {}
