@@ -1,10 +1,19 @@
--- Cases worked by hand: a loop from 5 down by 2, of three iterations, as the only one of a frame; and ordinals.
-use Rattle.std.proofs.Common.{◌≡◌, ℕ, pos, negsuc, List, [], ◌∷◌, None, Some, refl, arith}
+-- Cases worked by hand: a loop from 5 down by 2, of three iterations, as the only one of a frame; a logical IF; and ordinals.
+use Rattle.std.proofs.Common.{◌≡◌, ℕ, pos, negsuc, List, [], ◌∷◌, None, Some, refl, sym, ap, ◌∙◌, arith}
 use Rattle.f77_ast.specs.declared.program.Program.{Program}
 use Rattle.f77_ast.specs.declared.step.Control.TheVariants.{Turned}
+use Rattle.f77_ast.specs.declared.expr.Expr.{Expr}
+use Rattle.f77_ast.specs.declared.stmt.Item.{Item}
+use Rattle.f77_ast.specs.declared.stmt.Stmt.{Stmt, Print, out-roll-Stmt, roll-Stmt}
+use Rattle.f77_ast.specs.declared.stmt.Stmt.TheOpen.{Stmt-F}
+use Rattle.f77_ast.specs.declared.stmt.Stmt.TheOpen as layer
+use Rattle.f77_ast.specs.declared.stmt.Stmt.TheVariants as stmt
+use Rattle.f77_ast.specs.declared.stmt.Stmt.TheVariants.{rolls-LogicalIf}
+use Rattle.f77_structure.specs.Statements.{held_or}
 use Rattle.f77_meaning.specs.Event.{writes}
-use Rattle.f77_meaning.specs.Process.{ActiveLoop, Frame, at_increment, at_statement, come_to, entering, process_with}
+use Rattle.f77_meaning.specs.Process.{ActiveLoop, Frame, at_increment, at_inner, at_statement, come_to, entering, process_with}
 use Rattle.f77_meaning.specs.Step.{event, once_done}
+use Rattle.f77_turns.specs.Kept.{statement_at_stage}
 use Rattle.f77_turns.specs.Ordinals.{AllDiffer, ordinals_of}
 use Rattle.f77_turns.specs.Turns.{at_iteration}
 
@@ -39,6 +48,12 @@ module _ (program : Program) where
 three_ordinals : ordinals_of (a_frame (a_loop 2 0 ∷ a_loop 1 0 ∷ []) ∷ a_frame (a_loop 3 0 ∷ []) ∷ []) ≡ 2 ∷ 1 ∷ 3 ∷ []
 unfolding a_loop a_frame
 three_ordinals = refl
+
+-- inside a logical IF the steps are those of the statement that it holds
+held_print : (condition : Expr) (items : List Item) → statement_at_stage at_inner (stmt.LogicalIf condition (Print items)) ≡ Some (Print items)
+held_print condition items =
+    let layered : Stmt-F Stmt = layer.LogicalIf condition (Print items) in
+    ap (statement_at_stage at_inner) (sym (rolls-LogicalIf condition (Print items))) ∙ ap (λ l. Some (held_or (roll-Stmt layered) l)) (out-roll-Stmt layered)
 
 -- two equal numbers aren't all different
 not_twice : AllDiffer (2 ∷ 1 ∷ 2 ∷ []) → ⊥
