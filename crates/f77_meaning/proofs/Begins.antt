@@ -6,7 +6,7 @@ use Rattle.f77_ast.specs.declared.fault.Fault.TheVariants.{ZeroIncrement, DoRang
 use Rattle.f77_ast.specs.declared.specification.Bound.{Bound}
 use Rattle.f77_ast.specs.declared.stmt.LoopControl.{LoopControl}
 use Rattle.f77_structure.specs.Storage.{IsStorage, LiesIn, is_scalar, region_at, start_of, storage_units_of, storage_units_by}
-use Rattle.f77_meaning.specs.Demand.{Demand, gives, wants, calls, fails, and_then, located, place_by, Setting, written_at}
+use Rattle.f77_meaning.specs.Demand.{Demand, gives, wants, calls, fails, and_then, located, place_by, Setting}
 use Rattle.f77_meaning.specs.Do.{Begun, Parameters, begun_at, begun_of, begun_with, parameters_of, is_in_range, is_zero, count_of, has_64_bits, value_after}
 use Rattle.f77_meaning.specs.Process.{placed}
 use Rattle.f77_meaning.proofs.Frames.{Begins}

@@ -23,7 +23,7 @@ use Rattle.f77_structure.specs.Units.{statement_at}
 use Rattle.f77_structure.specs.Values.{Value, value_of_units}
 use Rattle.f77_meaning.specs.Assign.{Written, written_of}
 use Rattle.f77_meaning.specs.Demand.{Demand, gives, wants, calls, fails, and_then, Setting, demand_of, located, number_demand, setting_of, written_at}
-use Rattle.f77_meaning.specs.Do.{Begun, Parameters, active_from, begun_at, begun_of, begun_with, count_of, increment_of, is_in_range, is_zero, parameters_of}
+use Rattle.f77_meaning.specs.Do.{Begun, Parameters, active_from, begun_at, begun_of, begun_with, increment_of, is_in_range, is_zero, parameters_of}
 use Rattle.f77_meaning.specs.Event.{reads, writes, faults}
 use Rattle.f77_meaning.specs.Laws.{CombinesWith, AccumulationsCombine, PlainReadsLeadToNone, FreshFramesWriteNone}
 use Rattle.f77_meaning.specs.Print.{Printed, Printing, asks, enters, whole, stops, after_array_or_value, after_elements, after_item, after_items, after_value, ask_element, next_cell, next_item, printed_of, text_of, with_text, within_limit}

@@ -1,5 +1,5 @@
 -- The order of statements in an accepted unit.
-use Rattle.std.proofs.Common.{◌≡◌, ℕ, zero, suc, ◌+◌, ◌<◌, Bool, true, false, ◌&&◌, ◌||◌, nat_lt, List, [], ◌∷◌, ◌++◌, drop, take, Some, IsTrue, refl, sym, ap, ◌∙◌, arith, slice_get}
+use Rattle.std.proofs.Common.{◌≡◌, ℕ, zero, suc, ◌+◌, ◌<◌, Bool, true, false, ◌&&◌, ◌||◌, nat_lt, List, [], ◌∷◌, ◌++◌, drop, take, Some, refl, sym, ap, ◌∙◌, arith, slice_get}
 use Rattle.std.specs.List.{list_any}
 use Rattle.f77_ast.specs.declared.program.Listed.{Listed}
 use Rattle.f77_ast.specs.declared.rule.Rule.TheVariants.{DoNesting, DoubleLabel, IfNesting, JumpIntoRange, LabelMissing, StatementOrder}

@@ -3,7 +3,7 @@ use Rattle.std.specs.Prelude.{ℕ, ◌-◌, ℤ, pos, Bool, true, false, not, �
 use Rattle.std.specs.Cmp.Lexicographic.{slice_cmp}
 use Rattle.std.specs.Int.{int_rem_euclid}
 use Rattle.std.specs.declared.cmp.Ordering.{Ordering}
-use Rattle.std.specs.Ordering.{is_eq, is_ne, is_lt, is_le, is_gt, is_ge, nat_cmp, int_cmp, int_eq}
+use Rattle.std.specs.Ordering.{is_eq, is_ne, is_lt, is_le, is_gt, is_ge, nat_cmp, int_cmp}
 use Rattle.hyb_base.specs.Reduction.{truth_of, number_of, agree}
 use Rattle.hyb_base.specs.Wrap.{sum_of, difference_of, product_of, negation_of, quotient_of, power_of}
 use Rattle.hyb_base.specs.declared.ops.Rel.{Rel}

@@ -2,7 +2,7 @@ use Rattle.std.proofs.Common.{◌≤◌, ◌∙◌, length, rules, ap, arith, sy
 use Rattle.std.proofs.lemmas.Grind.{common_steps}
 use Rattle.f77_ast.specs.declared.expr.Expr.TheBlock as block
 use Rattle.f77_structure.specs.HasMeaning.{expr_has_meaning}
-use Rattle.f77_meaning.specs.Demand.{and_then, demand_of, value_at}
+use Rattle.f77_meaning.specs.Demand.{and_then, value_at}
 use Rattle.f77_machine.specs.Setting.{setting_in}
 use Rattle.f77_machine.proofs.Meanings.{only_one, reference_value, subscript_means, many_subscripts}
 use Rattle.f77_machine.proofs.demand.+demand.Goals as goal
