@@ -1,5 +1,5 @@
 -- A choice for the sets of nodes with a symbol without a value.
-use Rattle.std.proofs.Common.{ℕ, ◌≡◌, ◌==◌, ◌⊎◌, ◌↔◌, inl, inr, ◌<◌, ℤ, pos, negsuc, ◌+ℤ◌, ◌<ℤ◌, ◌≤ℤ◌, true, false, List, [], ◌∷◌, length, reverse, Option, None, Some, Contains, slice_set, refl, sym, ap, ◌∙◌, subst, arith, eqb-true, ne_eqb}
+use Rattle.std.proofs.Common.{ℕ, ◌≡◌, ◌==◌, ◌⊎◌, ◌↔◌, inl, inr, ◌<◌, ℤ, negsuc, ◌+ℤ◌, ◌≤ℤ◌, true, false, List, [], ◌∷◌, length, reverse, Option, None, Some, Contains, slice_set, refl, sym, ap, ◌∙◌, subst, arith, eqb-true, ne_eqb}
 use Rattle.std.proofs.lemmas.Int.{ints, by_lt_z}
 use Rattle.hyb_base.specs.declared.ops.Rel.{Rel}
 use Rattle.hyb_base.specs.declared.ops.Rel.TheVariants.{Eq, Ne, Lt, Le, Gt, Ge}
@@ -12,7 +12,7 @@ use Rattle.sym_lmad.proofs.MemberLaws.{members_are_listed}
 use Rattle.uses.specs.Over.{Over, Before}
 use Rattle.usr_graph.specs.declared.node.Node.{Node}
 use Rattle.usr_graph.specs.declared.node.Node.TheVariants as n
-use Rattle.usr_graph.specs.Members.{Worth, Choice, Sets, Holds, OfPlace, Where, OverCount, IsOf, IsMember, index_value, place_by, place_of, one_of, sets_of}
+use Rattle.usr_graph.specs.Members.{Worth, Choice, Sets, Holds, OfPlace, Where, OverCount, IsOf, index_value, place_by, place_of, one_of, sets_of}
 use Rattle.usr_graph.specs.Choice.{Value, worth_by, nothing_chosen, Extends, ChoicesExtend, SurelyEmptyIsEmpty}
 use Rattle.usr_graph.proofs.Lists.{Lists, Decided, same_int, lists_none, lists_of, lists_as, lists_or, is_listed, lists_where, lists_if, negated, lists_over}
 use Rattle.usr_graph.proofs.Maps.{before_map}

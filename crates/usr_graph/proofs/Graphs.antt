@@ -1,5 +1,5 @@
 -- A node of a graph has its members by those of its children, and a later node changes none of them.
-use Rattle.std.proofs.Common.{◌≡◌, ◌↔◌, ℕ, zero, suc, ◌<◌, ◌≤◌, ◌==◌, ◌⊎◌, inl, inr, ℤ, Bool, true, false, List, [], ◌∷◌, ◌++◌, length, reverse, Some, IsTrue, slice_get, slice_set, Contains, refl, ap, sym, subst, ◌∙◌, arith, length-append}
+use Rattle.std.proofs.Common.{◌≡◌, ◌↔◌, ℕ, ◌<◌, ◌≤◌, ◌==◌, ◌⊎◌, inl, inr, ℤ, Bool, true, false, List, [], ◌∷◌, ◌++◌, length, reverse, Some, slice_get, slice_set, refl, sym, subst, ◌∙◌, arith, length-append}
 use Rattle.std.proofs.lemmas.Bool.{eqb-false}
 use Rattle.std.proofs.lemmas.Bool.Decides.{nat_tests}
 use Rattle.std.proofs.lemmas.List.{reverse-append, reverse-reverse, length-reverse}
@@ -7,8 +7,8 @@ use Rattle.usr_graph.specs.declared.node.Node.{Node}
 use Rattle.usr_graph.specs.declared.node.Node.TheVariants as n
 use Rattle.usr_graph.specs.Built.{Keeps, IsAdded, IsNodeOf}
 use Rattle.usr_graph.specs.Members.{Worth, Choice, Sets, IsOf, one_of, sets_of, IsMember, OlderNodesKeepTheirMembers, index_value}
-use Rattle.usr_graph.specs.Nodes.{ChildrenBelow, children_below, HaveEarlierChildren}
-use Rattle.usr_graph.proofs.Maps.{over_map, before_map, where_map, count_map}
+use Rattle.usr_graph.specs.Nodes.{ChildrenBelow, HaveEarlierChildren}
+use Rattle.usr_graph.proofs.Maps.{before_map, where_map, count_map}
 use Rattle.usr_graph.proofs.Places.{get_push, get_first, get_within, children_typed}
 
 -- two families of sets are the same of the first numbers

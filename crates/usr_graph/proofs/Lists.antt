@@ -1,5 +1,5 @@
 -- Sets of numbers that a list gives.
-use Rattle.std.proofs.Common.{ℕ, zero, suc, ◌≡◌, ◌⊎◌, inl, inr, ℤ, pos, negsuc, ◌<ℤ◌, ◌≤ℤ◌, true, false, int_eq, List, [], ◌∷◌, ◌++◌, Contains, refl, sym, subst, arith, rules}
+use Rattle.std.proofs.Common.{ℕ, zero, suc, ◌≡◌, ◌⊎◌, inl, inr, ℤ, pos, negsuc, true, false, int_eq, List, [], ◌∷◌, ◌++◌, Contains, refl, sym, subst, arith, rules}
 use Rattle.std.proofs.lemmas.List.Elements.{Contains-append_left, Contains-append_right, Contains-append_cases}
 use Rattle.std.proofs.lemmas.Bool.Decides.{Decides-int_eq}
 use Rattle.std.proofs.lemmas.Int.{ints, by_lt_z}

@@ -1,5 +1,5 @@
 -- One set in the place of another.
-use Rattle.std.proofs.Common.{◌≡◌, ◌⊎◌, ◌↔◌, inl, inr, ℤ, Option, Some, None}
+use Rattle.std.proofs.Common.{ℤ, Option, Some, None}
 use Rattle.hyb_base.specs.declared.ops.Rel.{Rel}
 use Rattle.uses.specs.Over.{Over, Before}
 use Rattle.usr_graph.specs.Members.{Where, OverCount}

@@ -1,5 +1,5 @@
 -- What a run computes of symbols keeps their near numbers.
-use Rattle.std.proofs.Common.{◌≡◌, ℕ, ℤ, List, Some, length}
+use Rattle.std.proofs.Common.{ℕ, ℤ, List, length}
 use Rattle.hyb_base.specs.declared.env.Env.{Env}
 use Rattle.sym_lmad.specs.Bindings.{FitsCells}
 use Rattle.sym_lmad.proofs.NumberLaws.{worth_is_both}

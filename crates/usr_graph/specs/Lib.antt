@@ -1,4 +1,3 @@
-pub mod Asked
 pub mod Bounds
 pub mod Built
 pub mod Choice

@@ -1,4 +1,4 @@
-//! The graph of sets of addresses that summaries are made of: its nodes, their members, and a plain program that reads them.
+//! The graph of sets of addresses that summaries are made of: its nodes and their members.
 #![tactic(auto)]
 
 pub mod copy;
@@ -6,5 +6,4 @@ pub mod graph;
 pub mod laws;
 pub mod leaf;
 pub mod node;
-pub mod told;
 pub mod triple;
