@@ -1,15 +1,14 @@
 -- Nodes put together to the addresses that two iterations share.
-use Rattle.std.proofs.Common.{◌≡◌, ◌↔◌, ◌⊎◌, ℕ, ◌<◌, ℤ, pos, ◌≤ℤ◌, ◌<ℤ◌, List, Some, length, slice_set, Contains, arith}
+use Rattle.std.proofs.Common.{◌↔◌, ◌⊎◌, ℕ, ◌<◌, ℤ, List, length, slice_set, Contains, arith}
 use Rattle.std.proofs.lemmas.Int.{ints}
 use Rattle.sym_lmad.specs.declared.sym.Sym.{Sym}
 use Rattle.uses.specs.Over.{Over, Before, Pair}
-use Rattle.uses.specs.Use.{Use}
 use Rattle.uses.proofs.Pairs.{pairs_tell}
 use Rattle.usr_graph.specs.declared.node.Node.{Node}
 use Rattle.usr_graph.specs.declared.node.Node.TheVariants as n
 use Rattle.usr_graph.specs.declared.triple.Triple.{Triple}
 use Rattle.usr_graph.specs.Built.{Keeps, IsAdded}
-use Rattle.usr_graph.specs.Members.{Worth, Choice, IsMember}
+use Rattle.usr_graph.specs.Members.{IsMember}
 use Rattle.sum_algebra.specs.Rules.{IsIn}
 use Rattle.sum_algebra.proofs.Graphs.{both_ways, either_same, joint_same, keeps_then}
 use Rattle.sum_algebra.proofs.Loops.{over_same, before_same, over_some, before_at}

@@ -1,11 +1,10 @@
 -- Nodes put together to the sets of two statements, and graphs one after another.
-use Rattle.std.proofs.Common.{Result, Ok, Err, IfOk, ℕ, ◌↔◌, ◌⊎◌, inl, inr, ◌<◌, ◌≤◌, ℤ, Bool, List, length, refl, arith}
+use Rattle.std.proofs.Common.{Result, Ok, Err, IfOk, ℕ, ◌↔◌, ◌⊎◌, inl, inr, Bool, List, refl, arith}
 use Rattle.usr_graph.specs.declared.node.Node.{Node}
 use Rattle.usr_graph.specs.declared.node.Node.TheVariants as n
 use Rattle.usr_graph.specs.declared.triple.Triple.{Triple}
 use Rattle.usr_graph.specs.Bounds.{StayBounded}
 use Rattle.usr_graph.specs.Built.{Keeps, IsAdded}
-use Rattle.usr_graph.specs.Members.{Worth, Choice, IsMember}
 use Rattle.sum_algebra.specs.Rules.{IsIn, IsReadOnly, IsWrittenFirst, IsReadThenWritten, nothing_named}
 
 pub on_ok : {T E : Type 0} (r : Result T E) (P Q : T → Type 0) → ((x : T) → P x → Q x) → IfOk r P → IfOk r Q

@@ -1,5 +1,5 @@
 -- Nodes put together to the sets of a loop.
-use Rattle.std.proofs.Common.{◌≡◌, ◌↔◌, ◌⊎◌, ℕ, ◌<◌, ℤ, pos, ◌<ℤ◌, List, Option, Some, length, slice_set, Contains, sym, subst, ◌∙◌, arith}
+use Rattle.std.proofs.Common.{◌≡◌, ◌↔◌, ℕ, ◌<◌, ℤ, pos, List, Option, Some, length, slice_set, Contains, sym, subst, ◌∙◌, arith}
 use Rattle.std.proofs.lemmas.List.{set-set, get_or-set_same}
 use Rattle.std.proofs.lemmas.Option.{unwrap_or-slice_get}
 use Rattle.sym_lmad.specs.declared.sym.Sym.{Sym}
@@ -10,8 +10,8 @@ use Rattle.usr_graph.specs.declared.triple.Triple.{Triple}
 use Rattle.usr_graph.specs.Built.{Keeps, IsAdded}
 use Rattle.usr_graph.specs.Members.{Worth, Choice, Sets, IsMember, OverCount, index_value}
 use Rattle.usr_graph.proofs.Maps.{over_map, before_map}
-use Rattle.sum_algebra.specs.Rules.{IsIn, IsOver, IsOverLoop, ReadAt, WrittenAt, FirstAt, AllRead, AllWritten, LoopWrittenFirst, LoopReadOnly, LoopReadThenWritten}
-use Rattle.sum_algebra.proofs.Graphs.{both_ways, either_same, without_same, keeps_itself, keeps_then}
+use Rattle.sum_algebra.specs.Rules.{IsIn, IsOver, IsOverLoop, AllRead, AllWritten, LoopWrittenFirst, LoopReadOnly}
+use Rattle.sum_algebra.proofs.Graphs.{both_ways, either_same, without_same, keeps_then}
 
 pub over_same : (m : ℤ) (p q : ℤ → Type 0) → ((i : ℤ) → p i ↔ q i) → Over m p ↔ Over m q
 over_same m p q f = (over_map m p q (λ i. (f i).0), over_map m q p (λ i. (f i).1))

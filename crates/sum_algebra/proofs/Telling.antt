@@ -1,8 +1,8 @@
 -- The sets that the rules make tell how an address is used.
-use Rattle.std.proofs.Common.{◌≡◌, ◌↔◌, ℕ, ℤ, List, Option, Some, None, slice_set, Contains, sym, subst}
+use Rattle.std.proofs.Common.{◌≡◌, ◌↔◌, ℕ, ℤ, List, Option, Some, slice_set, Contains, subst}
 use Rattle.hyb_base.specs.declared.ops.Rel.{Rel}
 use Rattle.sym_lmad.specs.declared.sym.Sym.{Sym}
-use Rattle.uses.specs.Use.{Use, untouched, Tells}
+use Rattle.uses.specs.Use.{Use, Tells}
 use Rattle.uses.proofs.Loops.{tells_loop}
 use Rattle.uses.proofs.Rules.{tells_sequence, tells_gate}
 use Rattle.usr_graph.specs.declared.node.Cond.{Cond}
@@ -10,7 +10,7 @@ use Rattle.usr_graph.specs.declared.node.Node.{Node}
 use Rattle.usr_graph.specs.declared.triple.Triple.{Triple}
 use Rattle.usr_graph.specs.Members.{IsMember, Holds, Where}
 use Rattle.sum_algebra.specs.Rules.{IsIn, IsThen, IsGated, IsOverLoop}
-use Rattle.sum_algebra.specs.Tell.{TellsAt, ThenTells, GatedTells, LoopTells}
+use Rattle.sum_algebra.specs.Tell.{ThenTells, GatedTells, LoopTells}
 
 pub tells_same : (ro wf rw ro2 wf2 rw2 : Type 0) (u : Use) → ro2 ↔ ro → wf2 ↔ wf → rw2 ↔ rw → Tells ro wf rw u → Tells ro2 wf2 rw2 u
 tells_same ro wf rw ro2 wf2 rw2 u f g h t = record {

@@ -24,12 +24,7 @@ fn gate(graph: &mut Graph, cond: Cond, body: NodeId) -> Result<NodeId, NoMemory>
 }
 
 /// The three sets where a condition holds.
-fn gates(
-    alloc: Global,
-    graph: &mut Graph,
-    cond: Cond,
-    body: &Triple,
-) -> Result<Triple, NoMemory>
+fn gates(alloc: Global, graph: &mut Graph, cond: Cond, body: &Triple) -> Result<Triple, NoMemory>
     requires { IsIn graph.old body.now }
     ensures ok { IfOk result (λ t. IsGated graph.old cond body.now graph.new t) }
     ensures keeps { Keeps graph.old graph.new }

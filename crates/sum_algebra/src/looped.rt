@@ -14,12 +14,7 @@ use usr_graph::node::{Node, NodeId};
 use usr_graph::triple::Triple;
 
 /// What some iteration reads before it writes it.
-fn all_read(
-    graph: &mut Graph,
-    index: u32,
-    count: Sym,
-    body: &Triple,
-) -> Result<NodeId, NoMemory>
+fn all_read(graph: &mut Graph, index: u32, count: Sym, body: &Triple) -> Result<NodeId, NoMemory>
     requires { IsIn graph.old body.now }
     ensures ok { IfOk result (λ id. IsOver graph.old index count (AllRead body.now index) graph.new id) }
     ensures keeps { Keeps graph.old graph.new }
@@ -31,12 +26,7 @@ fn all_read(
 }
 
 /// What some iteration writes.
-fn all_written(
-    graph: &mut Graph,
-    index: u32,
-    count: Sym,
-    body: &Triple,
-) -> Result<NodeId, NoMemory>
+fn all_written(graph: &mut Graph, index: u32, count: Sym, body: &Triple) -> Result<NodeId, NoMemory>
     requires { IsIn graph.old body.now }
     ensures ok { IfOk result (λ id. IsOver graph.old index count (AllWritten body.now index) graph.new id) }
     ensures keeps { Keeps graph.old graph.new }

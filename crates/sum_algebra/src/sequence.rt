@@ -41,11 +41,7 @@ fn written_first(graph: &mut Graph, first: &Triple, later: &Triple) -> Result<No
 }
 
 /// What is read before it is written.
-fn read_then_written(
-    graph: &mut Graph,
-    first: &Triple,
-    later: &Triple,
-) -> Result<NodeId, NoMemory>
+fn read_then_written(graph: &mut Graph, first: &Triple, later: &Triple) -> Result<NodeId, NoMemory>
     requires first { IsIn graph.old first.now }
     requires later { IsIn graph.old later.now }
     ensures ok { IfOk result (λ id. IsReadThenWritten graph.old first.now later.now graph.new id) }
