@@ -1,0 +1,4 @@
+pub mod Loops
+pub mod Pairs
+pub mod Products
+pub mod Rules

@@ -1,0 +1,20 @@
+//! Laws on the members of nodes.
+ghost use Rattle.usr_graph.specs.Choice.{ChoicesExtend, SurelyEmptyIsEmpty, RunsExtendNearNumbers};
+ghost use Rattle.usr_graph.specs.Members.{OlderNodesKeepTheirMembers};
+
+/// Another node at the end keeps the members of each older one, under every choice.
+pub fn law_of_older_nodes()
+    ensures { OlderNodesKeepTheirMembers }
+{}
+
+/// For each value of all symbols that keeps the values that they have, one choice gives every node the members that it has
+/// by that value; so a node without members under any choice has none by that value.
+pub fn law_of_choices()
+    ensures extend { ChoicesExtend }
+    ensures surely_empty { SurelyEmptyIsEmpty }
+{}
+
+/// What a run computes of symbols is such a value.
+pub fn law_of_runs()
+    ensures { RunsExtendNearNumbers }
+{}
