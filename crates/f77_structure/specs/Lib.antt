@@ -1,11 +1,15 @@
 pub mod Arrays
 pub mod Blocks
+pub mod Declarations
 pub mod Labels
 pub mod Laws
+pub mod Leaves
 pub mod Loops
+pub mod Meant
 pub mod Needs
 pub mod Ranges
 pub mod HasMeaning
+pub mod Intrinsics
 pub mod Statements
 pub mod Storage
 pub mod Targets

@@ -6,7 +6,11 @@
 #![tactic(auto)]
 
 pub mod blocks;
+pub mod declarations;
+pub mod intrinsics;
 pub mod laws;
+pub mod leaves;
+pub mod meant;
 pub mod operators;
 pub mod statements;
 pub mod storage;
