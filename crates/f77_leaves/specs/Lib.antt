@@ -1,0 +1,4 @@
+pub mod Declarations
+pub mod Intrinsics
+pub mod Leaves
+pub mod Meant

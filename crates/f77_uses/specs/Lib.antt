@@ -1,0 +1,10 @@
+pub mod Breaks
+pub mod Ends
+pub mod Firsts
+pub mod Letters
+pub mod Refused
+pub mod Running
+pub mod Tables
+pub mod UnitTables
+pub mod UseTables
+pub mod Uses
