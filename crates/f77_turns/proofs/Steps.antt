@@ -1,21 +1,20 @@
 -- What a step does to the frames, by the statement at which the process is.
-use Rattle.std.proofs.Common.{◌≡◌, ◌≢◌, ℕ, zero, suc, ◌+◌, ◌==◌, ◌<◌, ◌≤◌, ℤ, Bool, true, false, cond, List, [], ◌∷◌, Option, None, Some, refl, sym, ap, subst, ◌∙◌, arith}
+use Rattle.std.proofs.Common.{◌≡◌, ◌≢◌, ℕ, zero, suc, ◌+◌, ◌==◌, ◌<◌, ◌≤◌, ℤ, Bool, true, false, cond, List, ◌∷◌, Option, None, Some, refl, sym, ap, subst, ◌∙◌, arith}
 use Rattle.std.specs.Prelude.{nat_lt}
 use Rattle.hyb_base.specs.declared.ops.RedOp.{RedOp}
 use Rattle.f77_ast.specs.declared.program.Loop.{Loop}
 use Rattle.f77_ast.specs.declared.program.Program.{Program}
 use Rattle.f77_ast.specs.declared.step.Control.{Control}
 use Rattle.f77_ast.specs.declared.step.Control.TheVariants.{Began}
-use Rattle.f77_ast.specs.declared.stmt.Item.{Item}
 use Rattle.f77_ast.specs.declared.stmt.LoopControl.{LoopControl}
 use Rattle.f77_ast.specs.declared.stmt.Stmt.{Stmt, Assign, Continue, Do, Print}
 use Rattle.f77_meaning.specs.Assign.{Written, written_of}
 use Rattle.f77_meaning.specs.Demand.{Demand, gives, wants, calls, fails, setting_of}
 use Rattle.f77_meaning.specs.Do.{Begun, active_from, begun_of, turned}
-use Rattle.f77_meaning.specs.Event.{reads, writes, takes, moves, prints, ends, faults}
+use Rattle.f77_meaning.specs.Event.{reads, writes, takes, prints, ends, faults}
 use Rattle.f77_meaning.specs.Print.{Printed, asks, enters, whole, stops, printed_of}
 use Rattle.f77_meaning.specs.Process.{ActiveLoop, Frame, Process, Stage, at_statement, at_increment, come_to, is_blocked, process_with, with_answer}
-use Rattle.f77_meaning.specs.Step.{Move, reading, writing, taking, moving, printing, ending, failing, do_move, done_by, event, event_of, increment_move, is_terminal, loop_of_do, move_of, past, past_do, past_increment, past_statement, print_move, resumed_by, statement_move, unless_blocked, write_move}
+use Rattle.f77_meaning.specs.Step.{Move, reading, writing, taking, moving, printing, ending, failing, do_move, done_by, event, event_of, is_terminal, loop_of_do, move_of, past, past_do, past_increment, past_statement, print_move, resumed_by, statement_move, unless_blocked, write_move}
 use Rattle.f77_meaning.proofs.Marks.{StaysAt, Unmarked, fresh_frames_write_none, printed_unmarked, stays}
 use Rattle.f77_turns.specs.Frames.{KeepsFrames, LoopsAfter, stay, joins, stays_out, turns, leaves, StepsKeepFrames}
 use Rattle.f77_turns.specs.Kept.{IsAtPrint, statement_at_stage}

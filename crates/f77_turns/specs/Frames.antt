@@ -25,7 +25,7 @@ pub record KeepsFrames (program : Program) (p : Process) (frame : Frame) (below 
   pub unit : last.unit ≡ frame.unit
   pub loops : LoopsAfter program p frame.active last.active
 
--- so does a step of a process, whatever the answer to a read
+-- each step of a process does so, whatever the answer to a read
 pub record StepKeepsFrames (program : Program) (p : Process) (frame : Frame) (below : List Frame) : Type 0 where
   pub done : KeepsFrames program p frame below (once_done program p)
   pub resumed : (answer : ℤ) → KeepsFrames program p frame below (resumed program p answer)

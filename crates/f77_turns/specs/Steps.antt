@@ -26,11 +26,11 @@ pub record PrintsAndTakesThere (program : Program) (p : Process) : Type 0 where
   pub prints : (text : List ℕ) → event program p ≡ prints text → IsAtPrint program p
   pub takes : (address : ℕ) (blocked : Bool) → event program p ≡ takes address blocked → IsAtRead program p
 
--- so does each process of each program
+-- each process of each program does so
 abbrev pub LinesAndNumbersAreOfStatements : Type 0
 LinesAndNumbersAreOfStatements = (program : Program) (p : Process) → PrintsAndTakesThere program p
 
--- the event after a write, a number taken, a move or a line is no write of an accumulation: that comes only after a read was answered.
--- After another event the process is where it was, at that event
+-- the event after a write, a number taken, a move or a printed line is no write of an accumulation. After any other event `once_done` leaves
+-- the process at that event, which is no such write either
 abbrev pub MarkedWritesFollowReads : Type 0
 MarkedWritesFollowReads = (program : Program) (p : Process) (address : ℕ) (value : ℤ) (op : RedOp) (control : Option Control) → event program (once_done program p) ≡ writes address value (Some op) control → ⊥
