@@ -13,5 +13,6 @@ pub mod Ordinals
 pub mod Positions
 pub mod Printed
 pub mod Runs
+pub mod Steps
 pub mod Turns
 pub mod Worked

@@ -1,4 +1,5 @@
--- Cases worked by hand: a loop from 5 down by 2, of three iterations, as the only one of a frame; a logical IF; and ordinals.
+-- Cases worked by hand: a loop from 5 down by 2, of three iterations, as the only one of a frame; the same in another loop with the same
+-- terminal statement; a logical IF; and ordinals.
 use Rattle.std.proofs.Common.{◌≡◌, ℕ, pos, negsuc, List, [], ◌∷◌, None, Some, refl, sym, ap, ◌∙◌, arith}
 use Rattle.f77_ast.specs.declared.program.Program.{Program}
 use Rattle.f77_ast.specs.declared.step.Control.TheVariants.{Turned}
@@ -43,6 +44,16 @@ module _ (program : Program) where
   loop_is_over : once_done program (process_with [] (a_frame (a_loop 4 2 ∷ []) ∷ [])) ≡ process_with [] (come_to 8 at_statement [] (a_frame []) ∷ [])
   unfolding a_loop a_frame
   loop_is_over = refl
+
+  -- the same in a loop with the same terminal statement, one iteration of which has ended: its second one ends only with the next
+  -- step, the turn of that loop
+  inner_is_over : once_done program (process_with [] (a_frame (a_loop 4 2 ∷ a_loop 3 1 ∷ []) ∷ [])) ≡ process_with [] (a_frame (a_loop 3 1 ∷ []) ∷ [])
+  unfolding a_loop a_frame
+  inner_is_over = refl
+
+  outer_turns : once_done program (process_with [] (a_frame (a_loop 3 1 ∷ []) ∷ [])) ≡ process_with [] (at_iteration 2 (a_loop 3 0) [] (a_frame []) ∷ [])
+  unfolding a_loop a_frame
+  outer_turns = refl
 
 -- two frames with three loops
 three_ordinals : ordinals_of (a_frame (a_loop 2 0 ∷ a_loop 1 0 ∷ []) ∷ a_frame (a_loop 3 0 ∷ []) ∷ []) ≡ 2 ∷ 1 ∷ 3 ∷ []

@@ -1,8 +1,10 @@
 //! Laws on steps: each a function with an empty body, whose contract is the law.
 ghost use Rattle.f77_turns.specs.Composed.{RunsCompose};
 ghost use Rattle.f77_turns.specs.Ends.{RunsEndAtEnd};
+ghost use Rattle.f77_turns.specs.Frames.{StepsKeepFrames};
 ghost use Rattle.f77_turns.specs.Kept.{OnlyPrintsChangeLines, StepsKeepSettings};
 ghost use Rattle.f77_turns.specs.Ordinals.{DoStatementsHaveLoops, ActiveLoopsAreOfProgram, ActiveLoopsDiffer};
+ghost use Rattle.f77_turns.specs.Steps.{LinesAndNumbersAreOfStatements, MarkedWritesFollowReads};
 ghost use Rattle.f77_turns.specs.Turns.{TurnsAreMarked, BeginningsAreMarked, TurnsClear, IterationsBeginAlike};
 ghost use Rattle.f77_turns.specs.Addresses.{EventsLieInStorage};
 
@@ -20,6 +22,24 @@ pub fn law_of_lines()
 /// A law: a step changes unit, bindings and bounds of no frame.
 pub fn law_of_settings()
     ensures { StepsKeepSettings }
+{}
+
+/// A law: a step leaves the frames below the last one, and of the last one the unit. Its active loops change only where a loop begins
+/// or turns (ANSI X3.9-1978, sections 11.10.3 and 11.10.7): the loop that begins is the innermost one, or isn't active where it has no
+/// iteration; the loop that turns has one iteration more ended, or isn't active after its last one, and no loop around it turns in that step.
+pub fn law_of_frames()
+    ensures { StepsKeepFrames }
+{}
+
+/// A law: a process prints a line only where its last frame is at a PRINT, and takes a number of the input only where it is at a READ, or at
+/// one that a logical IF holds.
+pub fn law_of_lines_and_numbers()
+    ensures { LinesAndNumbersAreOfStatements }
+{}
+
+/// A law: the event after a write, a number taken, a move or a printed line is no write of an accumulation.
+pub fn law_of_marked_writes()
+    ensures { MarkedWritesFollowReads }
 {}
 
 /// A law: each DO statement of a program has its loop, which the program lists under its ordinal (ANSI X3.9-1978, section 11.10).
