@@ -2,11 +2,10 @@
 --
 -- They are those of the whole unit, in whatever order they are: the first of each sort for a name counts, and a second one
 -- breaks a rule.
-use Rattle.std.specs.Prelude.{ℕ, suc, ◌≡◌, Bool, true, false, ◌&&◌, ◌||◌, nat_le, ◌==◌, List, [], ◌∷◌, ◌++◌, map, Option, None, Some, nat_eq, if◌then◌else◌}
+use Rattle.std.specs.Prelude.{ℕ, suc, Bool, true, false, ◌&&◌, nat_le, List, [], ◌∷◌, ◌++◌, Option, None, Some, nat_eq, if◌then◌else◌}
 use Rattle.std.specs.Cmp.Lexicographic.{pointwise}
 use Rattle.std.specs.List.{flat_map, list_any}
-use Rattle.std.specs.Map.{lookup}
-use Rattle.std.specs.Option.{is_some, option_or}
+use Rattle.std.specs.Option.{option_or}
 use Rattle.f77_ast.specs.declared.expr.Expr.{Expr}
 use Rattle.f77_ast.specs.declared.expr.Kind.{Kind}
 use Rattle.f77_ast.specs.declared.expr.Kind.TheVariants as kind
@@ -27,6 +26,7 @@ use Rattle.f77_leaves.specs.declared.declarations.Typing.{Typing}
 use Rattle.f77_leaves.specs.declared.declarations.Fact.{Fact}
 use Rattle.f77_leaves.specs.declared.declarations.Fact.TheVariants as fact
 use Rattle.f77_leaves.specs.declared.declarations.Declared.{Declared}
+use Rattle.f77_leaves.specs.declared.declarations.Known.{Known}
 
 -- ---- what a statement declares
 
@@ -109,85 +109,38 @@ facts_in (stmt.Init groups) = []
 abbrev pub facts_of : List Listed → List Declared
 facts_of listing = flat_map (λ listed. facts_in listed.stmt) listing
 
--- ---- the sorts of facts
-
-abbrev pub typing_in : Fact → Option Typing
-typing_in (fact.Typed typing) = Some typing
-typing_in (fact.Bounded bounds) = None
-typing_in fact.Common = None
-typing_in (fact.Valued value) = None
-typing_in (fact.Dummy place) = None
-typing_in fact.Heading = None
-typing_in fact.Result = None
-
-abbrev pub bounds_in : Fact → Option (List Bound)
-bounds_in (fact.Typed typing) = None
-bounds_in (fact.Bounded bounds) = Some bounds
-bounds_in fact.Common = None
-bounds_in (fact.Valued value) = None
-bounds_in (fact.Dummy place) = None
-bounds_in fact.Heading = None
-bounds_in fact.Result = None
-
-abbrev pub value_in : Fact → Option Expr
-value_in (fact.Typed typing) = None
-value_in (fact.Bounded bounds) = None
-value_in fact.Common = None
-value_in (fact.Valued value) = Some value
-value_in (fact.Dummy place) = None
-value_in fact.Heading = None
-value_in fact.Result = None
-
-abbrev pub dummy_in : Fact → Option ℕ
-dummy_in (fact.Typed typing) = None
-dummy_in (fact.Bounded bounds) = None
-dummy_in fact.Common = None
-dummy_in (fact.Valued value) = None
-dummy_in (fact.Dummy place) = Some place
-dummy_in fact.Heading = None
-dummy_in fact.Result = None
-
-abbrev pub common_in : Fact → Option (Unit {0})
-common_in (fact.Typed typing) = None
-common_in (fact.Bounded bounds) = None
-common_in fact.Common = Some tt
-common_in (fact.Valued value) = None
-common_in (fact.Dummy place) = None
-common_in fact.Heading = None
-common_in fact.Result = None
-
-abbrev pub heading_in : Fact → Option (Unit {0})
-heading_in (fact.Typed typing) = None
-heading_in (fact.Bounded bounds) = None
-heading_in fact.Common = None
-heading_in (fact.Valued value) = None
-heading_in (fact.Dummy place) = None
-heading_in fact.Heading = Some tt
-heading_in fact.Result = None
-
-abbrev pub result_in : Fact → Option (Unit {0})
-result_in (fact.Typed typing) = None
-result_in (fact.Bounded bounds) = None
-result_in fact.Common = None
-result_in (fact.Valued value) = None
-result_in (fact.Dummy place) = None
-result_in fact.Heading = None
-result_in fact.Result = Some tt
-
--- ---- the first fact of a sort for a name
+-- ---- what is known of a name
 
 -- whether two names are one
 abbrev pub same_name : List ℕ → List ℕ → Bool
 same_name a b = pointwise nat_eq a b
 
--- what a fact says, where it is of this name
-abbrev pub told_by : {A : Type 0} → (Fact → Option A) → (name : List ℕ) → Declared → Option A
-told_by sort name declared = if same_name name declared.name then sort declared.fact else None
+-- nothing
+abbrev pub unknown : Known
+unknown = record { typing = None; bounds = None; value = None; dummy = None; common = false; heading = false; result = false }
 
--- the first fact of a sort for a name
-abbrev pub first_told : {A : Type 0} → (Fact → Option A) → List Declared → (name : List ℕ) → Option A
-first_told sort [] name = None
-first_told sort (declared ∷ rest) name = option_or (told_by sort name declared) (first_told sort rest name)
+-- what is known with one fact more: the first of each sort counts
+abbrev pub joined : Known → Fact → Known
+joined known (fact.Typed typing) = record known { typing = option_or known.typing (Some typing) }
+joined known (fact.Bounded bounds) = record known { bounds = option_or known.bounds (Some bounds) }
+joined known fact.Common = record known { common = true }
+joined known (fact.Valued value) = record known { value = option_or known.value (Some value) }
+joined known (fact.Dummy place) = record known { dummy = option_or known.dummy (Some place) }
+joined known fact.Heading = record known { heading = true }
+joined known fact.Result = record known { result = true }
+
+-- what is known of a name with a declaration more
+abbrev pub told : (name : List ℕ) → Known → Declared → Known
+told name known declared = if same_name name declared.name then joined known declared.fact else known
+
+-- what some declarations say of a name, after what is known
+abbrev pub known_from : (name : List ℕ) → Known → List Declared → Known
+known_from name known [] = known
+known_from name known (declared ∷ rest) = known_from name (told name known declared) rest
+
+-- what some declarations say of a name
+abbrev pub known_of : List Declared → (name : List ℕ) → Known
+known_of facts name = known_from name unknown facts
 
 -- ---- IMPLICIT
 
@@ -240,39 +193,15 @@ implied_by (rule ∷ rules) letter = if list_any (holds_letter letter) rule.lett
 
 -- ---- the declarations of a unit
 
--- what a unit declares, by names and letters
+-- what a unit declares
 pub record Declarations : Type 0 where
-  -- the type that a type statement or FUNCTION gives a name
-  pub typed : List ℕ → Option Typing
+  -- what its declarations say of a name
+  pub known : List ℕ → Known
   -- the type that IMPLICIT gives a letter
   pub implied : ℕ → Option Typing
-  -- the bounds of a name
-  pub bounds : List ℕ → Option (List Bound)
-  -- the expression that a constant is
-  pub value : List ℕ → Option Expr
-  -- the place of a dummy argument, from 0
-  pub dummy : List ℕ → Option ℕ
-  -- whether a name is a member of COMMON
-  pub common : List ℕ → Bool
-  -- whether it is the name that PROGRAM or SUBROUTINE gives the unit
-  pub heading : List ℕ → Bool
-  -- whether it is the name that FUNCTION gives the unit, and so its result
-  pub result : List ℕ → Bool
-
-abbrev pub told_of : List Declared → List ImplicitRule → Declarations
-told_of facts rules = record {
-  typed = first_told typing_in facts;
-  implied = implied_by rules;
-  bounds = first_told bounds_in facts;
-  value = first_told value_in facts;
-  dummy = first_told dummy_in facts;
-  common = λ name. is_some (first_told common_in facts name);
-  heading = λ name. is_some (first_told heading_in facts name);
-  result = λ name. is_some (first_told result_in facts name);
-}
 
 abbrev pub declarations_of : List Listed → Declarations
-declarations_of listing = told_of (facts_of listing) (rules_of listing)
+declarations_of listing = record { known = known_of (facts_of listing); implied = implied_by (rules_of listing) }
 
 -- ---- the type of a name (section 4.1.2)
 
@@ -290,7 +219,7 @@ implicit_typing unit (letter ∷ rest) = implied_typing unit letter
 -- the type of a name: that of a type statement or its FUNCTION, else what IMPLICIT gives its first letter, else INTEGER for
 -- I to N, else none
 abbrev pub typing_of : Declarations → (name : List ℕ) → Option Typing
-typing_of unit name = option_or (unit.typed name) (implicit_typing unit name)
+typing_of unit name = option_or (unit.known name).typing (implicit_typing unit name)
 
 -- its kind
 abbrev pub kind_in : Option Typing → Option Kind

@@ -1,5 +1,5 @@
 -- What a name is that a list in parentheses follows (ANSI X3.9-1978, sections 5.3, 15.2 and 15.10).
-use Rattle.std.specs.Prelude.{ℕ, ℤ, pos, Bool, true, false, not, ◌&&◌, ◌||◌, ◌==◌, List, Option, None, Some, if◌then◌else◌}
+use Rattle.std.specs.Prelude.{ℕ, ℤ, pos, Bool, true, false, not, ◌&&◌, ◌||◌, List, Option, None, Some, if◌then◌else◌}
 use Rattle.std.specs.Option.{is_some}
 use Rattle.std.specs.Ordering.{int_eq}
 use Rattle.f77_ast.specs.declared.expr.Kind.{Kind}
@@ -10,6 +10,7 @@ use Rattle.f77_ast.specs.declared.specification.Length.TheVariants as length_of
 use Rattle.f77_leaves.specs.Declarations.{Declarations, declarations_of}
 use Rattle.f77_leaves.specs.Intrinsics.{intrinsic_named, gives}
 use Rattle.f77_structure.specs.Storage.{bound_number}
+use Rattle.f77_leaves.specs.declared.declarations.Known.{Known}
 use Rattle.f77_leaves.specs.declared.declarations.Typing.{Typing}
 use Rattle.f77_leaves.specs.declared.intrinsics.Intrinsic.{Intrinsic}
 use Rattle.f77_leaves.specs.declared.meant.Meant.{Meant}
@@ -51,18 +52,21 @@ retypes intrinsic (Some typing) = not (is_result_type intrinsic typing)
 -- whether a unit declares a name as something else than an intrinsic function: by a place in COMMON or among the dummy
 -- arguments, by PARAMETER, as its own name, or by a type statement with another type than that of the function's result.
 -- SAVE, EQUIVALENCE, DATA and IMPLICIT declare nothing in this sense
-abbrev pub is_declared : Declarations → Intrinsic → (name : List ℕ) → Bool
-is_declared unit intrinsic name =
-    unit.common name || is_some (unit.dummy name) || is_some (unit.value name) || unit.heading name || unit.result name || retypes intrinsic (unit.typed name)
+abbrev pub is_declared : Known → Intrinsic → Bool
+is_declared known intrinsic =
+    known.common || is_some known.dummy || is_some known.value || known.heading || known.result || retypes intrinsic known.typing
 
-abbrev pub unless_declared : Declarations → (name : List ℕ) → Option Intrinsic → Meant
-unless_declared unit name None = Call
-unless_declared unit name (Some intrinsic) = if is_declared unit intrinsic name then Call else Function intrinsic
+abbrev pub unless_declared : Known → Option Intrinsic → Meant
+unless_declared known None = Call
+unless_declared known (Some intrinsic) = if is_declared known intrinsic then Call else Function intrinsic
 
 -- what a name with a list is: an element of an array, where the unit gives it bounds; else an intrinsic function, where it is
 -- the name of one and the unit doesn't declare it as something else; else something called
+abbrev pub meant_by : Known → (name : List ℕ) → Meant
+meant_by known name = if is_some known.bounds then Element else unless_declared known (intrinsic_named name)
+
 abbrev pub meant_of : Declarations → (name : List ℕ) → Meant
-meant_of unit name = if is_some (unit.bounds name) then Element else unless_declared unit name (intrinsic_named name)
+meant_of unit name = meant_by (unit.known name) name
 
 abbrev pub meant_in : (listing : List Listed) → (name : List ℕ) → Meant
 meant_in listing name = meant_of (declarations_of listing) name

@@ -26,7 +26,7 @@ pub enum Fact {
     /// In PARAMETER: the constant that it is.
     Valued(Expr),
     /// In SUBROUTINE or FUNCTION: its place among the dummy arguments, from 0.
-    Dummy(u32),
+    Dummy(usize),
     /// It is the name of a main program or subroutine.
     Heading,
     /// It is the name of a function, and of its result.
@@ -40,4 +40,23 @@ pub struct Declared {
     pub name: Name,
     /// What is said.
     pub fact: Fact,
+}
+
+/// What declarations say of a name: the first of each sort.
+#[derive(Drop)]
+pub struct Known {
+    /// Its type: that of a type statement, or of its FUNCTION.
+    pub typing: Option<Typing>,
+    /// Its bounds.
+    pub bounds: Option<Bounds>,
+    /// The constant that it is.
+    pub value: Option<Expr>,
+    /// Its place among the dummy arguments, from 0.
+    pub dummy: Option<usize>,
+    /// Whether it is a member of COMMON.
+    pub common: bool,
+    /// Whether it is the name of the main program or subroutine.
+    pub heading: bool,
+    /// Whether it is the name of the function, and so the result.
+    pub result: bool,
 }
