@@ -10,6 +10,7 @@ use f77_operands::limit::too_many_operands;
 use f77_shape::shape::shape;
 use f77_stmts::stmt::stmt;
 use f77_subset::subset::subset;
+use f77_uses::names::names_break;
 use hyb_base::no_memory::NoMemory;
 use std::alloc::Global;
 
@@ -112,4 +113,13 @@ pub fn layout_of(alloc: Global, source: &[u8]) -> Result<Layout, Unmade> {
         return Err(Unmade::TooLarge);
     }
     Ok(subset(alloc, &units, &loops)?)
+}
+
+/// The first refusal of a source by the rules on declarations and uses of names.
+pub fn uses_of(alloc: Global, source: &[u8]) -> Result<(), Unmade> {
+    let units = units_of(alloc, source)?;
+    match names_break(alloc, units.as_slice())? {
+        None => Ok(()),
+        Some(refusal) => Err(Unmade::Refused(refusal)),
+    }
 }

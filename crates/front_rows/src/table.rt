@@ -2,7 +2,7 @@
 
 use crate::case::Case;
 use crate::same::show_same;
-use crate::stages::{Unmade, cards_of, fitting_units_of, layout_of, loops_of, units_of};
+use crate::stages::{Unmade, cards_of, fitting_units_of, layout_of, loops_of, units_of, uses_of};
 use crate::texts::{show_expr_of, show_need_of, show_stmt_of};
 use f77_shown::refusals::show_refusal;
 use f77_shown::tables::{show_card, show_layout, show_loop, show_unit};
@@ -30,6 +30,8 @@ pub enum Table {
     Loops,
     /// The places in storage of the names of a source.
     Layout,
+    /// Whether a source keeps the rules on declarations and uses of names.
+    Uses,
 }
 
 impl Table {
@@ -44,6 +46,7 @@ impl Table {
             "operands.rows" => Some(Table::Operands),
             "loops.rows" => Some(Table::Loops),
             "layout.rows" => Some(Table::Layout),
+            "uses.rows" => Some(Table::Uses),
             _ => None,
         }
     }
@@ -53,7 +56,12 @@ impl Table {
         match self {
             Table::Exprs | Table::Statements => true,
             Table::Operands => case.wanted.starts_with(b"need "),
-            Table::Cards | Table::Trees | Table::Shape | Table::Loops | Table::Layout => false,
+            Table::Cards
+            | Table::Trees
+            | Table::Shape
+            | Table::Loops
+            | Table::Layout
+            | Table::Uses => false,
         }
     }
 
@@ -67,7 +75,8 @@ impl Table {
             | Table::Statements
             | Table::Shape
             | Table::Loops
-            | Table::Layout => show_stmt_of(alloc, text, into)?,
+            | Table::Layout
+            | Table::Uses => show_stmt_of(alloc, text, into)?,
         }
         into.push(b'\n')
     }
@@ -80,6 +89,7 @@ impl Table {
             Table::Shape => show_shape(alloc, source, into),
             Table::Loops => show_loops(alloc, source, into),
             Table::Layout => show_places(alloc, source, into),
+            Table::Uses => show_uses(alloc, source, into),
             Table::Operands | Table::Exprs | Table::Statements => show_fits(alloc, source, into),
         }
     }
@@ -153,6 +163,12 @@ fn show_loops(alloc: Global, source: &[u8], into: &mut Bytes) -> Result<(), Unma
 fn show_places(alloc: Global, source: &[u8], into: &mut Bytes) -> Result<(), Unmade> {
     let layout = layout_of(alloc, source)?;
     Ok(show_layout(&layout, into)?)
+}
+
+/// Shows that a source keeps the rules on declarations and uses of names.
+fn show_uses(alloc: Global, source: &[u8], into: &mut Bytes) -> Result<(), Unmade> {
+    uses_of(alloc, source)?;
+    Ok(into.push_slice(b"kept\n".as_slice())?)
 }
 
 /// Shows that there is nothing to show.
