@@ -1,12 +1,12 @@
 -- The statements of units, by their places.
-use Rattle.std.proofs.Common.{◌≡◌, ℕ, zero, suc, ◌+◌, ◌≤◌, List, [], ◌∷◌, ◌++◌, All, Option, None, Some, IsSome, IsTrue, refl, sym, ap, subst, ◌∙◌, arith, slice_get, Bool, true, false, not, cond}
+use Rattle.std.proofs.Common.{◌≡◌, ℕ, zero, suc, ◌+◌, ◌<◌, ◌≤◌, drop, List, [], ◌∷◌, ◌++◌, All, Option, None, Some, IsSome, IsTrue, refl, sym, ap, subst, ◌∙◌, arith, slice_get, Bool, true, false, not, cond}
 use Rattle.std.specs.Option.{option_and_then}
 use Rattle.f77_ast.specs.declared.program.Listed.{Listed}
 use Rattle.f77_ast.specs.declared.program.Unit.{Unit as ProgramUnit}
 use Rattle.f77_ast.specs.declared.stmt.Stmt.{Stmt, End}
 use Rattle.f77_ast.specs.declared.stmt.Stmt as stmt
 use Rattle.f77_structure.specs.Statements.{is_executable, may_end_range, terminal_label}
-use Rattle.f77_structure.specs.Units.{listing_of, first_executable, EndsWithEnd, ExecutablesFollow, executes, is_main, main_unit}
+use Rattle.f77_structure.specs.Units.{listing_of, first_executable, next_place, EndsWithEnd, executes, is_main, main_unit}
 
 -- whether control goes on after a statement: after all but END
 abbrev pub goes_on : Stmt → Type 0
@@ -108,13 +108,58 @@ terminal_executes (stmt.Save entries) e = absurd (cc)
 terminal_executes (stmt.Init groups) e = absurd (cc)
 terminal_executes _ e = refl
 
--- behind an executable statement, where one is there, it is executable
-pub next_executes : (listing : List Listed) (at : ℕ) (listed : Listed) → ExecutablesFollow listing → slice_get listing at ≡ Some listed → is_executable listed.stmt ≡ true → IsSome (slice_get listing (at + 1)) → executes (slice_get listing (at + 1)) ≡ true
-next_executes listing at listed ordered here executes_it some = by (slice_get listing (at + 1)) refl some
+-- a statement that executes is there
+pub executes_some : (o : Option Listed) → executes o ≡ true → IsSome o
+executes_some None e = absurd (cc)
+executes_some (Some listed) e = refl
+
+-- the next place, counted from a statement further on
+next_zero : (b : Listed) (l : List Listed) → next_place (b ∷ l) 0 ≡ suc (first_executable l)
+next_zero b l = omega arith
+
+next_suc : (b : Listed) (l : List Listed) (at : ℕ) → next_place (b ∷ l) (suc at) ≡ suc (next_place l at)
+next_suc b l at =
+    let e : suc at + 1 ≡ suc (at + 1) = omega arith in
+    let f : suc (at + 1) + first_executable (drop (at + 1) l) ≡ suc (at + 1 + first_executable (drop (at + 1) l)) = omega arith in
+    ap (λ n. n + first_executable (drop n (b ∷ l))) e ∙ f
+
+next_one : (before : List Listed) (last listed : Listed) (at : ℕ) → last.stmt ≡ End → slice_get (before ++ last ∷ []) at ≡ Some listed → goes_on listed.stmt → executes (slice_get (before ++ last ∷ []) (next_place (before ++ last ∷ []) at)) ≡ true
+next_one [] last listed zero e h p =
+    let same : last ≡ listed = cc in
+    let ends : listed.stmt ≡ End = ap (λ l. l.stmt) (sym same) ∙ e in
+    absurd (subst goes_on ends p)
+next_one [] last listed (suc at) e h p = absurd cc
+next_one (b ∷ before) last listed zero e h p =
+    subst (λ n. executes (slice_get (b ∷ (before ++ last ∷ [])) n) ≡ true) (sym (next_zero b (before ++ last ∷ []))) (first_executes before last e)
+next_one (b ∷ before) last listed (suc at) e h p =
+    subst (λ n. executes (slice_get (b ∷ (before ++ last ∷ [])) n) ≡ true) (sym (next_suc b (before ++ last ∷ []) at)) (next_one before last listed at e h p)
+
+-- where control goes on after a statement that isn't END, an executable statement is there
+pub next_executes : (listing : List Listed) (listed : Listed) (at : ℕ) → EndsWithEnd listing → slice_get listing at ≡ Some listed → goes_on listed.stmt → executes (slice_get listing (next_place listing at)) ≡ true
+next_executes listing listed at ended h p =
+    let there : slice_get (ended.before ++ ended.last ∷ []) at ≡ Some listed = subst (λ xs. slice_get xs at ≡ Some listed) ended.joined h in
+    subst (λ xs. executes (slice_get xs (next_place xs at)) ≡ true) (sym ended.joined) (next_one ended.before ended.last listed at ended.is_end there p)
+
+-- the first executable statement is no later than any other
+first_least : (l : List Listed) (n : ℕ) → executes (slice_get l n) ≡ true → first_executable l ≤ n
+first_least [] n e = absurd (cc)
+first_least (b ∷ l) zero e = by (is_executable b.stmt) e
   where
-    by : (o : Option Listed) → slice_get listing (at + 1) ≡ o → IsSome o → executes o ≡ true
-    by None e s = absurd (cc)
-    by (Some next) e s = ordered at listed next here e executes_it
+    by : (x : Bool) → x ≡ true → cond (not x) (1 + first_executable l) 0 ≤ 0
+    by true h = omega arith
+    by false h = absurd (cc)
+first_least (b ∷ l) (suc n) e = by (is_executable b.stmt) (first_least l n e)
+  where
+    by : (x : Bool) → first_executable l ≤ n → cond (not x) (1 + first_executable l) 0 ≤ suc n
+    by true h = omega arith
+    by false h = omega (arith, h)
+
+-- and the next place is no later than that of any executable statement further on
+pub next_least : (listing : List Listed) (at n : ℕ) → at < n → executes (slice_get listing n) ≡ true → next_place listing at ≤ n
+next_least [] at n h e = absurd (cc)
+next_least (b ∷ l) at zero h e = absurd (omega (arith, h))
+next_least (b ∷ l) zero (suc n) h e = omega (arith, next_zero b l, first_least l n e)
+next_least (b ∷ l) (suc at) (suc n) h e = omega (arith, next_suc b l at, next_least l at n (omega (arith, h)) e)
 
 -- where one of some units is a main unit, there is a main unit among them
 pub main_is_there : (units : List ProgramUnit) (k : ℕ) (unit : ProgramUnit) → slice_get units k ≡ Some unit → IsTrue (is_main unit.listing) → IsSome (slice_get units (main_unit units))

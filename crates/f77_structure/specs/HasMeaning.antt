@@ -12,6 +12,7 @@ use Rattle.f77_ast.specs.declared.expr.Expr.TheOpen as layer
 use Rattle.f77_ast.specs.declared.expr.Ref.{Ref}
 use Rattle.f77_ast.specs.declared.program.Entity.{Entity}
 use Rattle.f77_ast.specs.declared.program.Layout.{Layout}
+use Rattle.f77_ast.specs.declared.program.Unit.{Unit as ProgramUnit}
 use Rattle.f77_ast.specs.declared.stmt.Item.{Item}
 use Rattle.f77_ast.specs.declared.stmt.Item as item
 use Rattle.f77_ast.specs.declared.stmt.LoopControl.{LoopControl}
@@ -56,17 +57,18 @@ meaning_step (layer.Paren inner) = inner
 abbrev pub meaning_part : Part-F Bool (Unit {0}) Bool → Unit {0}
 meaning_part part = tt
 
-abbrev pub meaning_ref : Layout → (unit : ℕ) → Ref-F Bool (Unit {0}) Bool → Bool
-meaning_ref layout unit ref = is_whole ref.part && names_integer (entity_in layout.entities unit ref.name) ref.args
+abbrev pub meaning_ref : List ProgramUnit → Layout → (unit : ℕ) → Ref-F Bool (Unit {0}) Bool → Bool
+meaning_ref units layout unit ref = is_whole ref.part && names_integer (entity_in layout.entities unit ref.name) ref.args
 
-module _ (layout : Layout) (unit : ℕ) where
+-- the units of a program, its layout, and the unit in which something is written
+module _ (units : List ProgramUnit) (layout : Layout) (unit : ℕ) where
   -- whether an expression has a meaning in a unit: all its references name INTEGER entities, and its operators are arithmetic
   abbrev pub expr_has_meaning : Expr → Bool
-  expr_has_meaning = fold-Expr Bool (Unit {0}) Bool meaning_step meaning_part (meaning_ref layout unit)
+  expr_has_meaning = fold-Expr Bool (Unit {0}) Bool meaning_step meaning_part (meaning_ref units layout unit)
 
   -- whether a reference has one
   abbrev pub ref_has_meaning : Ref → Bool
-  ref_has_meaning = fold-Ref Bool (Unit {0}) Bool meaning_step meaning_part (meaning_ref layout unit)
+  ref_has_meaning = fold-Ref Bool (Unit {0}) Bool meaning_step meaning_part (meaning_ref units layout unit)
 
   -- whether an item has one, which may also be an array's name alone; an implied DO has none yet
   abbrev pub item_has_meaning : Item → Bool

@@ -1,5 +1,5 @@
 -- The storage units of the entities of a program (ANSI X3.9-1978, sections 2.13, 5.1.2, 5.2.5, 5.4 and 17.1.1).
-use Rattle.std.specs.Prelude.{ℤ, ◌+ℤ◌, ◌&&◌, int_le, nat_le, nat_lt, if◌then◌else◌, ◌≡◌, ℕ, ◌+◌, ◌≤◌, ◌^◌, pos, Bool, true, false, List, [], ◌∷◌, length, map, All, take, Option, None, Some, slice_get}
+use Rattle.std.specs.Prelude.{ℤ, ◌+ℤ◌, ◌&&◌, int_le, nat_le, nat_lt, if◌then◌else◌, ◌≡◌, ℕ, ◌+◌, ◌<◌, ◌≤◌, ◌^◌, pos, Bool, true, false, List, [], ◌∷◌, length, map, All, take, Option, None, Some, slice_get}
 use Rattle.std.specs.List.{position_or_len, repeat}
 use Rattle.std.specs.Int.{int_gap}
 use Rattle.std.specs.Option.{is_some, option_map}
@@ -60,7 +60,13 @@ storage_units_by (first ∷ second ∷ bounds) = 0
 abbrev pub storage_units_of : Entity → ℕ
 storage_units_of entity = storage_units_by entity.bounds
 
--- the first address of what is stored
+-- the first address of what is stored; none of a dummy or a constant
+abbrev pub stored_at : Place → Option ℕ
+stored_at (Stored address) = Some address
+stored_at (Dummy place) = None
+stored_at (Constant value) = None
+
+-- the same; 0 of what isn't stored
 abbrev pub start_by : Place → ℕ
 start_by (Stored address) = address
 start_by (Dummy place) = 0
@@ -97,14 +103,19 @@ abbrev pub offset_by : Option Span → (subscript : ℤ) → Option ℕ
 offset_by None subscript = None
 offset_by (Some span) subscript = if is_within span subscript then Some (offset_of span subscript) else None
 
--- the address of a variable; none of what is no variable
+-- the address of a variable; none of what is no variable, or isn't stored
 abbrev pub address_of_variable : Entity → Option ℕ
-address_of_variable entity = if is_scalar entity.bounds then Some (start_of entity) else None
+address_of_variable entity = if is_scalar entity.bounds then stored_at entity.place else None
+
+-- an address some cells after a first one, where both are there
+abbrev pub address_after : (first : Option ℕ) → (cells : Option ℕ) → Option ℕ
+address_after None cells = None
+address_after (Some first) cells = option_map (λ offset. first + offset) cells
 
 -- the address of an element, by its subscript (section 5.4); none where that is outside the bounds, and of what is no
--- array of one dimension
+-- array of one dimension, or isn't stored
 abbrev pub address_of_element : Entity → (subscript : ℤ) → Option ℕ
-address_of_element entity subscript = option_map (λ offset. start_of entity + offset) (offset_by (vector_span entity.bounds) subscript)
+address_of_element entity subscript = address_after (stored_at entity.place) (offset_by (vector_span entity.bounds) subscript)
 
 -- whether it has an address
 abbrev pub is_stored : Place → Bool
@@ -117,21 +128,6 @@ abbrev pub storage_units_of_all : List Entity → ℕ
 storage_units_of_all [] = 0
 storage_units_of_all (entity ∷ entities) = storage_units_of entity + storage_units_of_all entities
 
--- an entity lies in storage of so many units
-pub record LiesIn (total : ℕ) (entity : Entity) : Type 0 where
-  pub stored : is_stored entity.place ≡ true
-  pub within : start_of entity + storage_units_of entity ≤ total
-
--- there is an opening value for each unit of storage, each entity lies in it, and addresses have 32 bits
-pub record IsStorage (layout : Layout) : Type 0 where
-  pub total : layout.total ≡ length layout.first
-  pub lie : All (LiesIn (length layout.first)) layout.entities
-  pub small : length layout.first ≤ 2 ^ 32
-
--- the region of an entity that overlaps no other
-abbrev pub region_of : Entity → Region
-region_of entity = record { start = start_of entity; len = storage_units_of entity }
-
 -- whether an address lies in a region
 abbrev pub lies_in : (address : ℕ) → Region → Bool
 lies_in address region = nat_le region.start address && nat_lt address (region.start + region.len)
@@ -139,6 +135,23 @@ lies_in address region = nat_le region.start address && nat_lt address (region.s
 -- the number of the region in which an address lies; their number where it lies in none
 abbrev pub region_at : List Region → (address : ℕ) → ℕ
 region_at regions address = position_or_len (lies_in address) regions
+
+-- an entity, where it is stored, lies in storage of this total, and within one of these regions
+pub record LiesIn (total : ℕ) (regions : List Region) (entity : Entity) : Type 0 where
+  pub within : is_stored entity.place ≡ true → start_of entity + storage_units_of entity ≤ total
+  pub together : (k : ℕ) → is_stored entity.place ≡ true → k < storage_units_of entity → region_at regions (start_of entity + k) ≡ region_at regions (start_of entity)
+
+-- there is an opening value for each address, each stored entity lies in storage and in one region, each address lies in a region,
+-- and addresses have 32 bits
+pub record IsStorage (layout : Layout) : Type 0 where
+  pub total : layout.total ≡ length layout.first
+  pub lie : All (LiesIn (length layout.first) layout.regions) layout.entities
+  pub covered : (address : ℕ) → address < length layout.first → region_at layout.regions address < length layout.regions
+  pub small : length layout.first ≤ 2 ^ 32
+
+-- the region of an entity that overlaps no other
+abbrev pub region_of : Entity → Region
+region_of entity = record { start = start_of entity; len = storage_units_of entity }
 
 -- the layout of a file of one program unit without COMMON and EQUIVALENCE, for all of its entities at once: each stands
 -- where those before it end and is a region of its own, and each storage unit is 0 before the first step. Which entities

@@ -1,5 +1,5 @@
 -- Program units: how the statements of a file are cut into them, and their statements by place (ANSI X3.9-1978, section 2.4).
-use Rattle.std.specs.Prelude.{All, IsFalse, IsTrue, ◌≡◌, ℕ, zero, suc, ◌+◌, Bool, true, false, not, List, [], ◌∷◌, ◌++◌, length, map, Option, None, Some, slice_get, if◌then◌else◌}
+use Rattle.std.specs.Prelude.{All, IsFalse, ◌≡◌, ℕ, zero, suc, ◌+◌, Bool, true, false, not, List, [], ◌∷◌, ◌++◌, drop, length, map, Option, None, Some, slice_get, if◌then◌else◌}
 use Rattle.std.specs.List.{position_or_len, prefix_len}
 use Rattle.f77_ast.specs.declared.code.Code.{Code}
 use Rattle.f77_ast.specs.declared.program.Listed.{Listed}
@@ -54,11 +54,6 @@ pub record EndsWithEnd (listing : List Listed) : Type 0 where
   pub nowhere_else : All (λ listed. IsFalse (is_end listed.stmt)) before
   pub is_end : last.stmt ≡ End
 
--- statements of which each one right behind an executable one is executable: specification statements stand before these (section 3.5),
--- and DATA, which may stand among them, has no meaning yet
-abbrev pub ExecutablesFollow : List Listed → Type 0
-ExecutablesFollow listing = (at : ℕ) (listed next : Listed) → slice_get listing at ≡ Some listed → slice_get listing (at + 1) ≡ Some next → IsTrue (is_executable listed.stmt) → IsTrue (is_executable next.stmt)
-
 -- whether there is a statement, and it is executable
 abbrev pub executes : Option Listed → Bool
 executes None = false
@@ -82,6 +77,11 @@ source_line (Some listed) = listed.card.line
 -- the place of the first executable statement of some statements
 abbrev pub first_executable : List Listed → ℕ
 first_executable listing = prefix_len (λ listed. not (is_executable listed.stmt)) listing
+
+-- the place at which control goes on after the statement at a place (section 11): that of the next executable statement, since DATA
+-- takes no step
+abbrev pub next_place : (listing : List Listed) → (at : ℕ) → ℕ
+next_place listing at = at + 1 + first_executable (drop (at + 1) listing)
 
 -- how many statements some units have
 abbrev pub statement_count : List ProgramUnit → ℕ

@@ -1,7 +1,7 @@
 //! Where entities and their elements are in storage (ANSI X3.9-1978, sections 2.13, 5.1.1, 5.2.5 and 5.4).
 ghost use Rattle.std.specs.Prelude.{◌≡◌, ◌+◌, ◌<◌, ◌≤◌, ◌^◌, IfSome};
 ghost use Rattle.std.specs.Int.{int_gap};
-ghost use Rattle.f77_structure.specs.Storage.{literal_number, bound_number, span_of, extent_of, vector_span, is_within, offset_of, offset_by, start_of, storage_units_of, address_of_variable, address_of_element};
+ghost use Rattle.f77_structure.specs.Storage.{literal_number, bound_number, span_of, extent_of, vector_span, is_within, offset_of, offset_by, stored_at, start_by, start_of, storage_units_of, address_of_variable, address_of_element};
 
 use f77_ast::expr::Expr;
 use f77_ast::program::{Entity, Place};
@@ -97,24 +97,25 @@ pub fn vector_span(bounds: &[Bound]) -> Option<Span>
     }
 }
 
-/// The first address of an entity that is stored; 0 for what has none.
-pub fn start(entity: &Entity) -> u32
-    ensures { result ≡ start_of entity.now }
+/// The first address of what is stored; none of a dummy or a constant.
+pub fn stored_at(place: &Place) -> Option<u32>
+    ensures value { result ≡ stored_at place.now }
+    ensures start { IfSome result (λ address. address ≡ start_by place.now) }
 {
-    match &entity.place {
-        Place::Stored(address) => *address,
-        Place::Dummy(_) => 0,
-        Place::Constant(_) => 0,
+    match place {
+        Place::Stored(address) => Some(*address),
+        Place::Dummy(_) => None,
+        Place::Constant(_) => None,
     }
 }
 
-/// The address of a variable; none of what is no variable.
+/// The address of a variable; none of what is no variable, or isn't stored.
 pub fn address_of_variable(entity: &Entity) -> Option<u32>
     ensures value { result ≡ address_of_variable entity.now }
     ensures within { IfSome result (λ address. address < start_of entity.now + storage_units_of entity.now) }
 {
     if entity.bounds.is_empty() {
-        Some(start(entity))
+        stored_at(&entity.place)
     } else {
         None
     }
@@ -131,14 +132,13 @@ fn offset_by(span: Option<Span>, subscript: i64) -> Option<u64>
 }
 
 /// The address of an element, by its subscript; none where that is outside the bounds, and of what is no array of one
-/// dimension.
+/// dimension, or isn't stored.
 pub fn address_of_element(entity: &Entity, subscript: i64) -> Option<u32>
     requires within { start_of entity.now + storage_units_of entity.now ≤ 2 ^ 32 }
     ensures value { result ≡ address_of_element entity.now subscript }
     ensures within { IfSome result (λ address. address < start_of entity.now + storage_units_of entity.now) }
 {
-    match offset_by(vector_span(entity.bounds.as_slice()), subscript) {
-        None => None,
-        Some(offset) => Some(start(entity) + offset as u32),
-    }
+    let first = stored_at(&entity.place)?;
+    let offset = offset_by(vector_span(entity.bounds.as_slice()), subscript)?;
+    Some(first + offset as u32)
 }

@@ -1,8 +1,8 @@
 //! Program units: how the statements of a file are cut into them, and their statements by place
 //! (ANSI X3.9-1978, section 2.4).
-ghost use Rattle.std.specs.Prelude.{◌≡◌, ◌++◌, ◌+◌, ◌<◌, ◌^◌, IfOk, OnSome, map, slice_get};
+ghost use Rattle.std.specs.Prelude.{◌≡◌, ◌++◌, ◌+◌, ◌<◌, ◌≤◌, ◌^◌, IfOk, OnSome, length, map, slice_get};
 ghost use Rattle.std.specs.Option.{option_copied, option_and_then};
-ghost use Rattle.f77_structure.specs.Units.{is_main, main_unit, name_of, unit_of, without_end, units_of, statement_at, source_line, first_executable};
+ghost use Rattle.f77_structure.specs.Units.{is_main, main_unit, name_of, unit_of, without_end, units_of, statement_at, source_line, first_executable, next_place};
 
 use crate::statements::{begins_subprogram, header_name, is_end, is_executable};
 use f77_ast::code::Code;
@@ -84,7 +84,8 @@ pub fn main_unit(units: &[Unit]) -> usize
 
 /// The place of the first executable statement of some statements, from 0; their number where there is none.
 pub fn first_executable(listing: &[Listed]) -> usize
-    ensures { result ≡ first_executable listing.now }
+    ensures value { result ≡ first_executable listing.now }
+    ensures within { result ≤ length listing.now }
 {
     for (place, listed) in listing.iter().enumerate() {
         if is_executable(&listed.stmt) {
@@ -92,6 +93,14 @@ pub fn first_executable(listing: &[Listed]) -> usize
         }
     }
     listing.len()
+}
+
+/// The place at which control goes on after the statement at a place: that of the next executable statement, since DATA takes no step.
+pub fn next_place(listing: &[Listed], at: usize) -> usize
+    requires { at < length listing.now }
+    ensures { result ≡ next_place listing.now at }
+{
+    at + 1 + first_executable(&listing[at + 1..])
 }
 
 /// The statement at a place of a unit, both counted from 0: none exactly where there is no such unit or place.
