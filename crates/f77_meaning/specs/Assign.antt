@@ -13,8 +13,8 @@ use Rattle.f77_ast.specs.declared.expr.Part.{Part}
 use Rattle.f77_ast.specs.declared.expr.Ref.{Ref}
 use Rattle.f77_trees.specs.Same.{same_ref}
 use Rattle.hyb_base.specs.Wrap.{sum_of, difference_of, product_of}
-use Rattle.f77_ast.specs.declared.fault.Fault.TheVariants.{ValueDummyAssigned}
-use Rattle.f77_meaning.specs.Demand.{Demand, gives, wants, fails, and_then, Evaluation, Located, Setting, demand_of, location_of, number_demand, number_of, written_at}
+use Rattle.f77_ast.specs.declared.fault.Fault.TheVariants.{OutsideRegion, ValueDummyAssigned}
+use Rattle.f77_meaning.specs.Demand.{Demand, gives, wants, fails, and_then, Evaluation, Located, Setting, demand_of, location_of, is_outside, number_demand, number_of, written_at}
 use Rattle.f77_meaning.specs.Process.{Binding, placed, valued, unvalued}
 
 -- whether an operator is one of a chain of `+` and `-`
@@ -201,11 +201,6 @@ pub record Written : Type 0 where
   pub value : ℤ
   pub by : Option RedOp
 
--- an assignment that is no accumulation: what the left side's subscript reads was read, then comes the right side
-abbrev pub plainly : Located → Evaluation → List ℤ → Demand Written
-plainly place value answers =
-    and_then (value answers) (λ v rest. and_then (written_at place.bound rest) (λ address more. gives (record { address = address; value = number_of v; by = None }) more))
-
 -- v is read last, and takes the value of the right side; where it is a dummy that is bound to a value, it isn't read, and takes none
 abbrev pub accumulate : RedOp → Binding → (ℤ → ℤ) → List ℤ → Demand Written
 accumulate op (placed address region length) value [] = wants address (Some op)
@@ -213,16 +208,26 @@ accumulate op (placed address region length) value (v ∷ rest) = gives (record 
 accumulate op (valued bound) value rest = fails ValueDummyAssigned
 accumulate op (unvalued length) value rest = fails ValueDummyAssigned
 
--- an accumulation, the left side's subscript having its value: all else is read, then v, and then v is written
-abbrev pub accumulated : Located → Accumulation → List ℤ → Demand Written
-accumulated place a answers = and_then (a.held answers) (λ value rest. accumulate a.op place.bound value rest)
+module _ (s : Setting) where
+  -- an assignment that is no accumulation: what the left side's subscript reads was read, then comes the right side
+  abbrev pub plainly : Located → Evaluation → List ℤ → Demand Written
+  plainly place value answers =
+      and_then (value answers) (λ v rest. and_then (written_at s place.bound rest) (λ address more. gives (record { address = address; value = number_of v; by = None }) more))
 
--- what an assignment writes, plainly or as an accumulation
-abbrev pub written_by : Option Accumulation → Located → Evaluation → List ℤ → Demand Written
-written_by None place value answers = plainly place value answers
-written_by (Some a) place value answers = accumulated place a answers
+  -- v, where it is in its region, is read and then written
+  abbrev pub accumulate_at : RedOp → Binding → (ℤ → ℤ) → List ℤ → Demand Written
+  accumulate_at op bound value rest = if is_outside s bound then fails OutsideRegion else accumulate op bound value rest
 
--- what an assignment writes, and where: the left side's subscript comes first
-abbrev pub written_of : Setting → (target : Ref) → (value : Expr) → List ℤ → Demand Written
-written_of s target value answers =
-    and_then (location_of s target answers) (λ place rest. written_by (accumulation_of s target value) place (demand_of s value) rest)
+  -- an accumulation, the left side's subscript having its value: all else is read, then v, and then v is written
+  abbrev pub accumulated : Located → Accumulation → List ℤ → Demand Written
+  accumulated place a answers = and_then (a.held answers) (λ value rest. accumulate_at a.op place.bound value rest)
+
+  -- what an assignment writes, plainly or as an accumulation
+  abbrev pub written_by : Option Accumulation → Located → Evaluation → List ℤ → Demand Written
+  written_by None place value answers = plainly place value answers
+  written_by (Some a) place value answers = accumulated place a answers
+
+  -- what an assignment writes, and where: the left side's subscript comes first
+  abbrev pub written_of : (target : Ref) → (value : Expr) → List ℤ → Demand Written
+  written_of target value answers =
+      and_then (location_of s target answers) (λ place rest. written_by (accumulation_of s target value) place (demand_of s value) rest)

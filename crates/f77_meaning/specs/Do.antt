@@ -2,10 +2,12 @@
 use Rattle.std.specs.Prelude.{ℕ, suc, ◌+◌, ◌-◌, ◌^◌, ℤ, pos, negsuc, ◌+ℤ◌, ◌-ℤ◌, ◌*ℤ◌, int_div, Bool, false, ◌&&◌, ◌==◌, List, Option, None, Some, nat_lt, if◌then◌else◌}
 use Rattle.f77_ast.specs.Entity.{entity_in}
 use Rattle.f77_ast.specs.declared.expr.Expr.{Expr}
+use Rattle.f77_ast.specs.declared.program.Listed.{Listed}
 use Rattle.f77_ast.specs.declared.program.Loop.{Loop}
-use Rattle.f77_ast.specs.declared.fault.Fault.TheVariants.{ZeroIncrement, DoRange}
+use Rattle.f77_ast.specs.declared.fault.Fault.TheVariants.{DoRange, OutsideRegion, ZeroIncrement}
 use Rattle.f77_ast.specs.declared.stmt.LoopControl.{LoopControl}
-use Rattle.f77_meaning.specs.Demand.{Demand, gives, fails, and_then, Setting, located, number_demand, written_at}
+use Rattle.f77_structure.specs.Units.{next_place}
+use Rattle.f77_meaning.specs.Demand.{Demand, gives, fails, and_then, Setting, address_written, is_outside, located, number_demand}
 use Rattle.f77_meaning.specs.Process.{ActiveLoop, Binding}
 
 -- the initial, terminal and incrementation parameters m1, m2 and m3 (section 11.10.3)
@@ -52,14 +54,15 @@ pub record Begun : Type 0 where
 abbrev pub begun_at : Parameters → (variable : ℕ) → Begun
 begun_at m variable = record { variable = variable; first = m.first; increment = m.increment; count = count_of m }
 
--- the incrementation parameter isn't 0 (section 11.10.3), the count and the value at the end of the loop are in range, and the variable
--- may be written
-abbrev pub begun_with : Binding → Parameters → List ℤ → Demand Begun
-begun_with variable m rest =
-    if is_zero m.increment then fails ZeroIncrement
-    else (if is_in_range m then and_then (written_at variable rest) (λ address more. gives (begun_at m address) more) else fails DoRange)
-
 module _ (s : Setting) where
+  -- the variable is in its region, the incrementation parameter isn't 0 (section 11.10.3), the count and the value at the end of the
+  -- loop are in range, and the variable may be written
+  abbrev pub begun_with : Binding → Parameters → List ℤ → Demand Begun
+  begun_with variable m rest =
+      if is_outside s variable then fails OutsideRegion
+      else (if is_zero m.increment then fails ZeroIncrement
+      else (if is_in_range m then and_then (address_written variable rest) (λ address more. gives (begun_at m address) more) else fails DoRange))
+
   -- the incrementation parameter: 1 where it is left out
   abbrev pub increment_of : Option Expr → List ℤ → Demand ℤ
   increment_of None answers = gives (pos 1) answers
@@ -78,11 +81,12 @@ module _ (s : Setting) where
       and_then (parameters_of control answers) (λ m rest.
       and_then (located s (entity_in s.program.layout.entities s.unit control.variable) None rest) (λ variable more. begun_with variable.bound m more))
 
--- the loop of a DO statement at a place of a unit, which becomes active: its range begins after the DO statement
-abbrev pub active_from : (at : ℕ) → Loop → Begun → ActiveLoop
-active_from at loop begun = record {
+-- the loop of a DO statement at a place of the statements of a unit, which becomes active: its range is run from where control goes
+-- on after the DO statement
+abbrev pub active_from : (listing : List Listed) → (at : ℕ) → Loop → Begun → ActiveLoop
+active_from listing at loop begun = record {
   ordinal = loop.ordinal;
-  from = at + 1;
+  from = next_place listing at;
   last = at + 1 + (loop.last - loop.from);
   variable = begun.variable;
   first = begun.first;

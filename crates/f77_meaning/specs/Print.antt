@@ -1,17 +1,19 @@
 -- The line that PRINT writes (ANSI X3.9-1978, sections 12.8 and 12.8.2; list-directed output, section 13.6, is this project's own).
-use Rattle.std.specs.Prelude.{ℕ, suc, ◌+◌, nat_le, nat_lt, ℤ, Bool, true, false, List, [], ◌∷◌, ◌++◌, length, drop, Option, None, Some, if◌then◌else◌}
+use Rattle.std.specs.Prelude.{ℕ, zero, suc, ◌+◌, ◌-◌, ◌*◌, nat_le, ℤ, Bool, true, false, List, [], ◌∷◌, ◌++◌, length, drop, Option, None, Some, if◌then◌else◌}
 use Rattle.hyb_base.specs.Decimal.{decimal_of}
 use Rattle.hyb_base.specs.declared.ops.RedOp.{RedOp}
 use Rattle.f77_ast.specs.Limits.{most_line_bytes}
 use Rattle.f77_ast.specs.declared.program.Entity.{Entity}
+use Rattle.f77_ast.specs.declared.program.Place.{Place}
+use Rattle.f77_ast.specs.declared.program.Place.TheVariants.{Stored, Dummy, Constant}
 use Rattle.f77_ast.specs.declared.stmt.Item.{Item}
 use Rattle.f77_ast.specs.declared.stmt.Item as item
 use Rattle.f77_ast.specs.declared.fault.Fault.{Fault}
-use Rattle.f77_ast.specs.declared.fault.Fault.TheVariants.{LineLimit}
+use Rattle.f77_ast.specs.declared.fault.Fault.TheVariants.{LineLimit, Subscript}
 use Rattle.f77_structure.specs.Arrays.{array_named}
-use Rattle.f77_structure.specs.Storage.{start_of, storage_units_of}
-use Rattle.f77_structure.specs.Values.{Value, integer, truth, chars, value_of_units}
-use Rattle.f77_meaning.specs.Demand.{Demand, gives, wants, calls, fails, Setting, demand_of}
+use Rattle.f77_structure.specs.Storage.{elements_of}
+use Rattle.f77_structure.specs.Values.{Value, integer, truth, chars}
+use Rattle.f77_meaning.specs.Demand.{Demand, gives, wants, calls, fails, Evaluation, Setting, demand_of, place_of, value_at, width}
 use Rattle.f77_meaning.specs.Process.{Binding, Frame, with_done}
 
 -- the text of a value: an integer in decimal, a truth as `T` or `F`, characters as they are
@@ -60,29 +62,32 @@ abbrev pub within_limit : Option (List ℕ) → (List ℕ → Printed) → Print
 within_limit None go = stops LineLimit
 within_limit (Some line) go = go line
 
--- an item that is an expression, but no array: its value goes into the line once it is known
-abbrev pub after_value : Demand Value → Printing → (Printing → Printed) → Printed
-after_value (gives value rest) p go = within_limit (with_text p.line (text_of value)) (λ line. go (next_item p line))
+-- a value goes into the line once it is known; then it goes on with that line
+abbrev pub after_value : Demand Value → Printing → (List ℕ → Printed) → Printed
+after_value (gives value rest) p go = within_limit (with_text p.line (text_of value)) go
 after_value (wants address by) p go = asks address by p
 after_value (calls unit bindings) p go = enters unit bindings p
 after_value (fails fault) p go = stops fault
 
--- the next element of an array is read; where there is none, the item is done
-abbrev pub ask_element : Entity → Printing → (Printing → Printed) → Printed
-ask_element array p go = if nat_lt p.frame.cells (storage_units_of array) then asks (start_of array + p.frame.cells) None p else go (next_item p p.line)
-
--- an item that is an array: its elements are items in the order of their addresses (section 5.2.5), each of which goes into the
--- line once it is read
-abbrev pub after_elements : Entity → List ℤ → Printing → (Printing → Printed) → Printed
-after_elements array [] p go = ask_element array p go
-after_elements array (value ∷ rest) p go =
-    within_limit (with_text p.line (text_of (value_of_units array.kind (value ∷ [])))) (λ line. ask_element array (next_cell p line) go)
-
-abbrev pub after_array_or_value : Option Entity → (List ℤ → Demand Value) → Printing → (Printing → Printed) → Printed
-after_array_or_value (Some array) value p go = after_elements array p.frame.answers p go
-after_array_or_value None value p go = after_value (value p.frame.answers) p go
-
 module _ (s : Setting) where
+  -- the value of the element of an array that comes after `done` others, in the order of their addresses (section 5.2.5), by the place of
+  -- the array. Dummies have no meaning yet, and no constant is an array
+  abbrev pub element_after : Entity → Place → (done : ℕ) → Evaluation
+  element_after array (Stored first) done answers = value_at s (place_of s array (first + done * width array.kind array.len)) answers
+  element_after array (Dummy place) done answers = fails Subscript
+  element_after array (Constant value) done answers = fails Subscript
+
+  -- an item that is an array, of which `left` elements are left: each of them is an item, which goes into the line once it is read
+  abbrev pub after_elements : Entity → (left : ℕ) → Printing → (Printing → Printed) → Printed
+  after_elements array zero p go = go (next_item p p.line)
+  after_elements array (suc left) p go =
+      after_value (element_after array array.place p.frame.cells p.frame.answers) p (λ line. after_elements array left (next_cell p line) go)
+
+  -- an array's name is its elements, and another expression its value
+  abbrev pub after_array_or_value : Option Entity → Evaluation → Printing → (Printing → Printed) → Printed
+  after_array_or_value (Some array) value p go = after_elements array (elements_of array - p.frame.cells) p go
+  after_array_or_value None value p go = after_value (value p.frame.answers) p (λ line. go (next_item p line))
+
   -- after one item: an array's name is its elements, and another expression its value; an implied DO has no meaning yet
   abbrev pub after_item : Item → Printing → (Printing → Printed) → Printed
   after_item (item.Plain expr) p go = after_array_or_value (array_named s.program.layout s.unit expr) (demand_of s expr) p go

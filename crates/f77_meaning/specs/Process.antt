@@ -19,7 +19,7 @@ pub record Dimension : Type 0 where
   pub low : ℤ
   pub high : Option ℤ
 
--- an active DO-loop (section 11.10.2): which DO statement of the file it is of, counted from 1; the places of the first
+-- an active DO-loop (section 11.10.2): which DO statement of the file it is of, counted from 1; the places of the first executable
 -- and the terminal statement of its range in its unit; the address of its variable; what the execution of the DO
 -- statement has fixed, its first value, its increment and its count; and how many iterations have ended
 pub record ActiveLoop : Type 0 where

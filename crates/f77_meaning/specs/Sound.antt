@@ -9,19 +9,18 @@ use Rattle.f77_structure.specs.HasMeaning.{statement_has_meaning}
 use Rattle.f77_structure.specs.Loops.{loops_of}
 use Rattle.f77_structure.specs.Ranges.{IsDo, RangesNest, terminal_at}
 use Rattle.f77_structure.specs.Storage.{IsStorage}
-use Rattle.f77_structure.specs.Units.{EndsWithEnd, ExecutablesFollow, executes, listing_of, main_unit, statement_count}
+use Rattle.f77_structure.specs.Units.{EndsWithEnd, executes, listing_of, main_unit, next_place, statement_count}
 use Rattle.f77_meaning.specs.Do.{has_64_bits, value_after}
 use Rattle.f77_meaning.specs.Process.{ActiveLoop, Frame, Process, Stage, at_statement, at_inner, at_entry, at_increment, listed_of}
 use Rattle.f77_meaning.specs.Step.{is_terminal, loop_of_do}
 
--- what every accepted program satisfies: there is a main unit; END is the last statement of each unit, and no other; behind an
--- executable statement stand executable ones; each statement has a meaning, with its expressions and references; all entities lie in storage; the loops are those of the DO
+-- what every accepted program satisfies: there is a main unit; END is the last statement of each unit, and no other; each statement has
+-- a meaning, with its expressions and references; all entities that are stored lie in storage; the loops are those of the DO
 -- statements; ranges nest; and statements are counted with 32 bits
 pub record IsSound (program : Program) : Type 0 where
   pub main : IsSome (slice_get program.units (main_unit program.units))
   pub ended : All (λ unit. EndsWithEnd unit.listing) program.units
-  pub ordered : All (λ unit. ExecutablesFollow unit.listing) program.units
-  pub meaning : (u : ℕ) (unit : ProgramUnit) → slice_get program.units u ≡ Some unit → All (λ listed. IsTrue (statement_has_meaning program.layout u listed.stmt)) unit.listing
+  pub meaning : (u : ℕ) (unit : ProgramUnit) → slice_get program.units u ≡ Some unit → All (λ listed. IsTrue (statement_has_meaning program.units program.layout u listed.stmt)) unit.listing
   pub storage : IsStorage program.layout
   pub loops : program.loops ≡ loops_of program.units
   pub ranges : All (λ unit. RangesNest unit.listing) program.units
@@ -44,7 +43,7 @@ pub record IsActive (program : Program) (unit low high : ℕ) (loop : ActiveLoop
   pub its : Loop
   pub found : loop_of_do program unit at ≡ Some its
   pub ordinal : loop.ordinal ≡ its.ordinal
-  pub from : loop.from ≡ at + 1
+  pub from : loop.from ≡ next_place (listing_of program.units unit) at
   pub last : loop.last ≡ terminal_at (listing_of program.units unit) at label
   pub above : loop.from ≤ low
   pub below : high ≤ loop.last
@@ -54,7 +53,7 @@ pub record IsActive (program : Program) (unit low high : ℕ) (loop : ActiveLoop
 -- and its range in that of the next one, and so on
 abbrev pub AreActive : Program → (unit low high : ℕ) → List ActiveLoop → Type 0
 AreActive program unit low high [] = Unit {0}
-AreActive program unit low high (loop ∷ outer) = IsActive program unit low high loop × AreActive program unit (loop.from - 1) loop.last outer
+AreActive program unit low high (loop ∷ outer) = (first : IsActive program unit low high loop) × AreActive program unit first.at loop.last outer
 
 -- a stage fits its frame: the statement at which it is, is executable; where the frame increments, it is at the terminal statement of its
 -- innermost active loop. Nothing is at a statement inside a logical IF, or at the entry of a unit, yet
@@ -64,17 +63,33 @@ FitsStage program at_inner frame = ⊥
 FitsStage program at_entry frame = ⊥
 FitsStage program at_increment frame = IsTrue (is_terminal frame.at frame.active)
 
+-- what a frame knows of its unit's dummies, and of implied DOs: no unit with dummies is entered, and no implied DO runs, yet
+pub record FitsUnit (program : Program) (frame : Frame) : Type 0 where
+  pub bindings : frame.bindings ≡ []
+  pub bounds : frame.bounds ≡ []
+  pub implied : frame.implied ≡ []
+
 -- a frame that may come of a program: it is at a statement, which lies in the range of each of its active loops, and at a stage
 -- that fits
 pub record IsFrame (program : Program) (frame : Frame) : Type 0 where
   pub stands : IsSome (listed_of program frame)
   pub active : AreActive program frame.unit frame.at frame.at frame.active
   pub stage : FitsStage program frame.stage frame
+  pub known : FitsUnit program frame
 
--- frames that may come of a program, the last one first: no unit is active twice
+-- a frame is at a call of a unit: none is yet
+abbrev pub Calls : Program → Frame → (unit : ℕ) → Type 0
+Calls program frame unit = ⊥
+
+-- a frame below one of a unit is of another unit, and at a call
+pub record IsBelow (program : Program) (unit : ℕ) (frame : Frame) : Type 0 where
+  pub other : frame.unit ≢ unit
+  pub calls : Calls program frame unit
+
+-- frames that may come of a program, the last one first
 abbrev pub AreFrames : Program → List Frame → Type 0
 AreFrames program [] = Unit {0}
-AreFrames program (frame ∷ below) = IsFrame program frame × (All (λ other. other.unit ≢ frame.unit) below × AreFrames program below)
+AreFrames program (frame ∷ below) = IsFrame program frame × (All (IsBelow program frame.unit) below × AreFrames program below)
 
 -- a process that may come of a program: its frames may, and its line isn't past its limit
 pub record IsOf (program : Program) (p : Process) : Type 0 where

@@ -11,7 +11,7 @@ use Rattle.f77_ast.specs.declared.step.Control.TheVariants.{Began, Turned}
 use Rattle.f77_ast.specs.declared.stmt.Stmt.{Stmt}
 use Rattle.f77_ast.specs.declared.stmt.Stmt as stmt
 use Rattle.f77_structure.specs.Loops.{loop_with_range_from}
-use Rattle.f77_structure.specs.Units.{statement_number}
+use Rattle.f77_structure.specs.Units.{listing_of, next_place, statement_number}
 use Rattle.f77_meaning.specs.Assign.{Written, written_of}
 use Rattle.f77_meaning.specs.Demand.{Demand, gives, wants, calls, fails, setting_of}
 use Rattle.f77_meaning.specs.Do.{Begun, begun_of, active_from, next_value, turned}
@@ -36,28 +36,33 @@ abbrev pub is_terminal : (at : ℕ) → List ActiveLoop → Bool
 is_terminal at [] = false
 is_terminal at (loop ∷ outer) = loop.last == at
 
--- a frame that is done with the statement at a place: where that is the terminal statement of the innermost active loop, this
--- loop's incrementation processing comes next (section 11.10.6), and else the next statement
-abbrev pub past : (at : ℕ) → List ActiveLoop → Frame → Frame
-past at active frame = if is_terminal at active then come_to at at_increment active frame else come_to (at + 1) at_statement active frame
+-- the statements of a frame's unit
+abbrev pub listing_in : Program → Frame → List Listed
+listing_in program frame = listing_of program.units frame.unit
 
--- the same of the frame's own statement and loops
-abbrev pub past_statement : Frame → Frame
-past_statement frame = past frame.at frame.active frame
+module _ (program : Program) where
+  -- a frame that is done with the statement at a place: where that is the terminal statement of the innermost active loop, this
+  -- loop's incrementation processing comes next (section 11.10.6), and else the next statement
+  abbrev pub past : (at : ℕ) → List ActiveLoop → Frame → Frame
+  past at active frame = if is_terminal at active then come_to at at_increment active frame else come_to (next_place (listing_in program frame) at) at_statement active frame
 
--- a frame after a DO statement: its range is run where its count isn't zero. Where that is zero, control goes past the range
--- (section 11.10.4); where outer active loops have the same terminal statement, the iteration of the innermost of these ends
--- there, without the steps of that statement
-abbrev pub past_do : ActiveLoop → Frame → Frame
-past_do loop frame = if loop.count == 0 then past loop.last frame.active frame else come_to loop.from at_statement (loop ∷ frame.active) frame
+  -- the same of the frame's own statement and loops
+  abbrev pub past_statement : Frame → Frame
+  past_statement frame = past frame.at frame.active frame
 
--- a frame after the incrementation processing of its innermost active loop: the range is run again where iterations are left,
--- and else the loop is inactive, and its terminal statement is done for the loop around it (sections 11.10.2, 11.10.4 and
--- 11.10.7)
-abbrev pub past_increment : List ActiveLoop → Frame → Frame
-past_increment [] frame = past frame.at [] frame
-past_increment (loop ∷ outer) frame =
-    if nat_lt (suc loop.done) loop.count then come_to loop.from at_statement (turned loop ∷ outer) frame else past frame.at outer frame
+  -- a frame after a DO statement: its range is run where its count isn't zero. Where that is zero, control goes past the range
+  -- (section 11.10.4); where outer active loops have the same terminal statement, the iteration of the innermost of these ends
+  -- there, without the steps of that statement
+  abbrev pub past_do : ActiveLoop → Frame → Frame
+  past_do loop frame = if loop.count == 0 then past loop.last frame.active frame else come_to loop.from at_statement (loop ∷ frame.active) frame
+
+  -- a frame after the incrementation processing of its innermost active loop: the range is run again where iterations are left,
+  -- and else the loop is inactive, and its terminal statement is done for the loop around it (sections 11.10.2, 11.10.4 and
+  -- 11.10.7)
+  abbrev pub past_increment : List ActiveLoop → Frame → Frame
+  past_increment [] frame = past frame.at [] frame
+  past_increment (loop ∷ outer) frame =
+      if nat_lt (suc loop.done) loop.count then come_to loop.from at_statement (turned loop ∷ outer) frame else past frame.at outer frame
 
 -- a write, but by a loop's own control: to the variable of a running DO or implied DO it is a fault
 abbrev pub unless_blocked : (blocked : Bool) → Move → Move
@@ -67,18 +72,18 @@ unless_blocked blocked move = if blocked then failing DoVariableWritten else mov
 abbrev pub loop_of_do : Program → (unit at : ℕ) → Option Loop
 loop_of_do program unit at = loop_with_range_from program.loops (statement_number program.units unit at + 1)
 
--- the last frame of a process, those below it, and its line
-module _ (frame : Frame) (below : List Frame) (line : List ℕ) where
+-- a program, the last frame of a process, those below it, and its line
+module _ (program : Program) (frame : Frame) (below : List Frame) (line : List ℕ) where
   -- a PRINT reads what its items ask for, and then prints its line. No function is called yet
   abbrev pub print_move : Printed → Move
   print_move (asks address by p) = reading address by p.frame below p.line
   print_move (enters unit bindings p) = ending
-  print_move (whole text) = printing text (process_with [] (past_statement frame ∷ below))
+  print_move (whole text) = printing text (process_with [] (past_statement program frame ∷ below))
   print_move (stops fault) = failing fault
 
   -- an assignment reads what it asks for, and then writes
   abbrev pub write_move : Demand Written → Move
-  write_move (gives w rest) = unless_blocked (is_blocked w.address (frame ∷ below)) (writing w.address w.value w.by None (process_with line (past_statement frame ∷ below)))
+  write_move (gives w rest) = unless_blocked (is_blocked w.address (frame ∷ below)) (writing w.address w.value w.by None (process_with line (past_statement program frame ∷ below)))
   write_move (wants address by) = reading address by frame below line
   write_move (calls unit bindings) = ending
   write_move (fails fault) = failing fault
@@ -86,7 +91,7 @@ module _ (frame : Frame) (below : List Frame) (line : List ℕ) where
   -- a DO statement reads what its parameters ask for, and then writes its variable: its loop begins (section 11.10.3)
   abbrev pub begin_move : Loop → Demand Begun → Move
   begin_move loop (gives b rest) =
-      unless_blocked (is_blocked b.variable (frame ∷ below)) (writing b.variable b.first None (Some (Began loop.ordinal)) (process_with line (past_do (active_from frame.at loop b) frame ∷ below)))
+      unless_blocked (is_blocked b.variable (frame ∷ below)) (writing b.variable b.first None (Some (Began loop.ordinal)) (process_with line (past_do program (active_from (listing_in program frame) frame.at loop b) frame ∷ below)))
   begin_move loop (wants address by) = reading address by frame below line
   begin_move loop (calls unit bindings) = ending
   begin_move loop (fails fault) = failing fault
@@ -99,58 +104,57 @@ module _ (frame : Frame) (below : List Frame) (line : List ℕ) where
   -- the incrementation processing of the innermost active loop writes its variable (section 11.10.7)
   abbrev pub increment_move : List ActiveLoop → Move
   increment_move [] = ending
-  increment_move (loop ∷ outer) = writing loop.variable (next_value loop) None (Some (Turned loop.ordinal)) (process_with line (past_increment (loop ∷ outer) frame ∷ below))
+  increment_move (loop ∷ outer) = writing loop.variable (next_value loop) None (Some (Turned loop.ordinal)) (process_with line (past_increment program (loop ∷ outer) frame ∷ below))
 
-  module _ (program : Program) where
-    -- a statement: an assignment, a DO statement and a PRINT as above; CONTINUE moves control (section 11.11); END ends the run,
-    -- as there is no unit but the main one yet (section 11.14). The others have no meaning yet, or take no step, and no process of
-    -- an accepted program is at one
-    abbrev pub statement_move : Stmt → Move
-    statement_move (stmt.Assign target value) = write_move (written_of (setting_of program frame) target value frame.answers)
-    statement_move (stmt.Do terminal control) = do_move (loop_of_do program frame.unit frame.at) (begun_of (setting_of program frame) control frame.answers)
-    statement_move stmt.Continue = moving (process_with line (past_statement frame ∷ below))
-    statement_move stmt.Return = ending
-    statement_move stmt.Else = ending
-    statement_move stmt.EndIf = ending
-    statement_move stmt.End = ending
-    statement_move (stmt.Stop code) = ending
-    statement_move (stmt.Goto label) = ending
-    statement_move (stmt.ComputedGoto labels index) = ending
-    statement_move (stmt.ArithmeticIf value negative zeroth positive) = ending
-    statement_move (stmt.LogicalIf' condition pointer inner) = ending
-    statement_move (stmt.BlockIf condition) = ending
-    statement_move (stmt.ElseIf condition) = ending
-    statement_move (stmt.Call name args) = ending
-    statement_move (stmt.Print items) = print_move (printed_of (setting_of program frame) items frame line)
-    statement_move (stmt.Read items) = ending
-    statement_move (stmt.Program name) = ending
-    statement_move (stmt.Subroutine name dummies) = ending
-    statement_move (stmt.Function typ name dummies) = ending
-    statement_move (stmt.Declare typ entities) = ending
-    statement_move (stmt.Dimension arrays) = ending
-    statement_move (stmt.Common groups) = ending
-    statement_move (stmt.Equivalence groups) = ending
-    statement_move (stmt.Parameter constants) = ending
-    statement_move (stmt.Implicit rules) = ending
-    statement_move (stmt.Save entries) = ending
-    statement_move (stmt.Init groups) = ending
+  -- a statement: an assignment, a DO statement and a PRINT as above; CONTINUE moves control (section 11.11); END ends the run,
+  -- as there is no unit but the main one yet (section 11.14). The others have no meaning yet, or take no step, and no process of
+  -- an accepted program is at one
+  abbrev pub statement_move : Stmt → Move
+  statement_move (stmt.Assign target value) = write_move (written_of (setting_of program frame) target value frame.answers)
+  statement_move (stmt.Do terminal control) = do_move (loop_of_do program frame.unit frame.at) (begun_of (setting_of program frame) control frame.answers)
+  statement_move stmt.Continue = moving (process_with line (past_statement program frame ∷ below))
+  statement_move stmt.Return = ending
+  statement_move stmt.Else = ending
+  statement_move stmt.EndIf = ending
+  statement_move stmt.End = ending
+  statement_move (stmt.Stop code) = ending
+  statement_move (stmt.Goto label) = ending
+  statement_move (stmt.ComputedGoto labels index) = ending
+  statement_move (stmt.ArithmeticIf value negative zeroth positive) = ending
+  statement_move (stmt.LogicalIf' condition pointer inner) = ending
+  statement_move (stmt.BlockIf condition) = ending
+  statement_move (stmt.ElseIf condition) = ending
+  statement_move (stmt.Call name args) = ending
+  statement_move (stmt.Print items) = print_move (printed_of (setting_of program frame) items frame line)
+  statement_move (stmt.Read items) = ending
+  statement_move (stmt.Program name) = ending
+  statement_move (stmt.Subroutine name dummies) = ending
+  statement_move (stmt.Function typ name dummies) = ending
+  statement_move (stmt.Declare typ entities) = ending
+  statement_move (stmt.Dimension arrays) = ending
+  statement_move (stmt.Common groups) = ending
+  statement_move (stmt.Equivalence groups) = ending
+  statement_move (stmt.Parameter constants) = ending
+  statement_move (stmt.Implicit rules) = ending
+  statement_move (stmt.Save entries) = ending
+  statement_move (stmt.Init groups) = ending
 
-    -- the same, where there may be no statement; no process of an accepted program goes past its END
-    abbrev pub listed_move : Option Listed → Move
-    listed_move None = ending
-    listed_move (Some listed) = statement_move listed.stmt
+  -- the same, where there may be no statement; no process of an accepted program goes past its END
+  abbrev pub listed_move : Option Listed → Move
+  listed_move None = ending
+  listed_move (Some listed) = statement_move listed.stmt
 
-    -- what a frame does next at its stage; a statement inside a logical IF and the entry of a unit have no meaning yet
-    abbrev pub stage_move : Stage → Move
-    stage_move at_statement = listed_move (listed_of program frame)
-    stage_move at_inner = ending
-    stage_move at_entry = ending
-    stage_move at_increment = increment_move frame.active
+  -- what a frame does next at its stage; a statement inside a logical IF and the entry of a unit have no meaning yet
+  abbrev pub stage_move : Stage → Move
+  stage_move at_statement = listed_move (listed_of program frame)
+  stage_move at_inner = ending
+  stage_move at_entry = ending
+  stage_move at_increment = increment_move frame.active
 
 -- what a process of these frames and this line does next, its last frame being the first of them
 abbrev pub frames_move : Program → List Frame → (line : List ℕ) → Move
 frames_move program [] line = ending
-frames_move program (frame ∷ below) line = stage_move frame below line program frame.stage
+frames_move program (frame ∷ below) line = stage_move program frame below line frame.stage
 
 -- what a process does next: a function of the program and the process alone
 abbrev pub move_of : Program → Process → Move

@@ -60,6 +60,10 @@ storage_units_by (first ∷ second ∷ bounds) = 0
 abbrev pub storage_units_of : Entity → ℕ
 storage_units_of entity = storage_units_by entity.bounds
 
+-- how many elements an array has: one for each cell, as each takes one yet
+abbrev pub elements_of : Entity → ℕ
+elements_of array = storage_units_by array.bounds
+
 -- the first address of what is stored; none of a dummy or a constant
 abbrev pub stored_at : Place → Option ℕ
 stored_at (Stored address) = Some address
