@@ -1,12 +1,13 @@
 -- What an assignment asks for and writes, one answer after another.
-use Rattle.std.proofs.Common.{◌≡◌, ℕ, ℤ, List, [], ◌∷◌, ◌++◌, Option, None, Some, refl, sym, ap, ◌∙◌}
+use Rattle.std.proofs.Common.{◌≡◌, ℕ, ℤ, Bool, true, false, cond, List, [], ◌∷◌, ◌++◌, Option, None, Some, refl, sym, ap, ◌∙◌}
 use Rattle.hyb_base.specs.Reduction.{apply}
 use Rattle.hyb_base.specs.declared.ops.RedOp.{RedOp}
 use Rattle.f77_ast.specs.declared.expr.Expr.{Expr}
 use Rattle.f77_ast.specs.declared.expr.Ref.{Ref}
+use Rattle.f77_ast.specs.declared.fault.Fault.TheVariants.{OutsideRegion}
 use Rattle.f77_structure.specs.Values.{Value}
-use Rattle.f77_meaning.specs.Assign.{Accumulation, Written, accumulate, accumulated, accumulation_of, plainly, written_by, written_of}
-use Rattle.f77_meaning.specs.Demand.{Demand, gives, wants, calls, fails, and_then, Evaluation, Located, Setting, demand_of, location_of, number_of, written_at}
+use Rattle.f77_meaning.specs.Assign.{Accumulation, Written, accumulate, accumulate_at, accumulated, accumulation_of, plainly, written_by, written_of}
+use Rattle.f77_meaning.specs.Demand.{Demand, gives, wants, calls, fails, and_then, Evaluation, Located, Setting, demand_of, is_outside, location_of, number_of, written_at}
 use Rattle.f77_meaning.specs.Process.{Binding, placed, valued, unvalued}
 use Rattle.f77_meaning.proofs.Demands.{demand_asks, given, location_asks, written_asks}
 use Rattle.f77_meaning.proofs.Evaluations.{AsksInTurn, extends, leaves_none, then_asks, unmarked, uses_up}
@@ -27,12 +28,12 @@ pub record Accumulates (d : List ℤ → Demand Written) : Type 0 where
   pub fresh : (rest : List ℤ) (w : Written) (op : RedOp) → d [] ≡ gives w rest → w.by ≡ Some op → ⊥
 
 -- the last read: all answers are used up, it has the mark, and with an answer more its address is written
-record LastRead (op : RedOp) (bound : Binding) (f : ℤ → ℤ) (rest : List ℤ) (a : ℕ) (m : Option RedOp) : Type 0 where
+record LastRead (d : List ℤ → Demand Written) (op : RedOp) (f : ℤ → ℤ) (rest : List ℤ) (a : ℕ) (m : Option RedOp) : Type 0 where
   none : rest ≡ []
   mark : Some op ≡ m
-  writes : (x : ℤ) → accumulate op bound f (x ∷ []) ≡ gives (record { address = a; value = f x; by = Some op }) []
+  writes : (x : ℤ) → d (x ∷ []) ≡ gives (record { address = a; value = f x; by = Some op }) []
 
-last_read : (op : RedOp) (bound : Binding) (f : ℤ → ℤ) (rest : List ℤ) (a : ℕ) (m : Option RedOp) → accumulate op bound f rest ≡ wants a m → LastRead op bound f rest a m
+last_read : (op : RedOp) (bound : Binding) (f : ℤ → ℤ) (rest : List ℤ) (a : ℕ) (m : Option RedOp) → accumulate op bound f rest ≡ wants a m → LastRead (accumulate op bound f) op f rest a m
 last_read op (placed address region length) f [] a m e =
     let c : wants address (Some op) ≡ wants a m = e in
     let same : address ≡ a = cc in
@@ -48,20 +49,38 @@ no_answer op (placed address region length) f (v ∷ more) rest w e n = absurd (
 no_answer op (valued value) f more rest w e n = absurd (cc)
 no_answer op (unvalued length) f more rest w e n = absurd (cc)
 
-module _ (place : Located) (a : Accumulation) (held : IsHeld a.op a.held) where
-  marked : (answers : List ℤ) (address : ℕ) (op : RedOp) → accumulated place a answers ≡ wants address (Some op) → Combined (accumulated place a) answers address op
+-- the same, where the place is looked for in its region first
+module _ (s : Setting) (op : RedOp) (bound : Binding) (f : ℤ → ℤ) where
+  last_read_at : (rest : List ℤ) (a : ℕ) (m : Option RedOp) → accumulate_at s op bound f rest ≡ wants a m → LastRead (accumulate_at s op bound f) op f rest a m
+  last_read_at rest a m e = by (is_outside s bound) refl e
+    where
+      by : (b : Bool) → is_outside s bound ≡ b → cond b (fails OutsideRegion) (accumulate op bound f rest) ≡ wants a m → LastRead (accumulate_at s op bound f) op f rest a m
+      by true h e = absurd (cc)
+      by false h e =
+          let l : LastRead (accumulate op bound f) op f rest a m = last_read op bound f rest a m e in
+          record { none = l.none; mark = l.mark; writes = λ x. ap (λ b. cond b (fails OutsideRegion) (accumulate op bound f (x ∷ []))) h ∙ l.writes x }
+
+  no_answer_at : (more rest : List ℤ) (w : Written) → accumulate_at s op bound f more ≡ gives w rest → more ≡ [] → ⊥
+  no_answer_at more rest w e n = by (is_outside s bound) e
+    where
+      by : (b : Bool) → cond b (fails OutsideRegion) (accumulate op bound f more) ≡ gives w rest → ⊥
+      by true e = absurd (cc)
+      by false e = no_answer op bound f more rest w e n
+
+module _ (s : Setting) (place : Located) (a : Accumulation) (held : IsHeld a.op a.held) where
+  marked : (answers : List ℤ) (address : ℕ) (op : RedOp) → accumulated s place a answers ≡ wants address (Some op) → Combined (accumulated s place a) answers address op
   marked answers address op e = by (a.held answers) refl e
     where
-      by : (d : Demand (ℤ → ℤ)) → a.held answers ≡ d → and_then d (λ value rest. accumulate a.op place.bound value rest) ≡ wants address (Some op) → Combined (accumulated place a) answers address op
+      by : (d : Demand (ℤ → ℤ)) → a.held answers ≡ d → and_then d (λ value rest. accumulate_at s a.op place.bound value rest) ≡ wants address (Some op) → Combined (accumulated s place a) answers address op
       by (gives f rest) g e =
-          let l : LastRead a.op place.bound f rest address (Some op) = last_read a.op place.bound f rest address (Some op) e in
+          let l : LastRead (accumulate_at s a.op place.bound f) a.op f rest address (Some op) = last_read_at s a.op place.bound f rest address (Some op) e in
           let c : Combines a.op f = held.combines answers rest f g in
           let none : a.held answers ≡ gives f [] = g ∙ ap (gives f) l.none in
           let same : a.op ≡ op = let m : Some a.op ≡ Some op = l.mark in cc in
           record {
             added = c.added;
             writes = λ x.
-                ap (λ d. and_then d (λ value rest. accumulate a.op place.bound value rest)) (extends a.held answers [] (x ∷ []) f held.asks none)
+                ap (λ d. and_then d (λ value rest. accumulate_at s a.op place.bound value rest)) (extends a.held answers [] (x ∷ []) f held.asks none)
                 ∙ l.writes x
                 ∙ (λ i. gives (record { address = address; value = c.is x i; by = Some a.op }) [])
                 ∙ (λ i. gives (record { address = address; value = apply (same i) x c.added; by = Some (same i) }) []);
@@ -73,31 +92,31 @@ module _ (place : Located) (a : Accumulation) (held : IsHeld a.op a.held) where
       by (calls u b) g e = absurd (cc)
       by (fails x) g e = absurd (cc)
 
-  written_last : (answers rest : List ℤ) (address : ℕ) (x : ℤ) (w : Written) → accumulated place a answers ≡ wants address None → accumulated place a (answers ++ x ∷ []) ≡ gives w rest → ⊥
+  written_last : (answers rest : List ℤ) (address : ℕ) (x : ℤ) (w : Written) → accumulated s place a answers ≡ wants address None → accumulated s place a (answers ++ x ∷ []) ≡ gives w rest → ⊥
   written_last answers rest address x w e g = by (a.held answers) refl e
     where
-      later : (b : ℕ) (m : Option RedOp) → a.held answers ≡ wants b m → (d : Demand (ℤ → ℤ)) → a.held (answers ++ x ∷ []) ≡ d → and_then d (λ value more. accumulate a.op place.bound value more) ≡ gives w rest → ⊥
-      later b m h (gives f more) k e = no_answer a.op place.bound f more rest w e (uses_up a.held answers more b m x f held.asks h k)
+      later : (b : ℕ) (m : Option RedOp) → a.held answers ≡ wants b m → (d : Demand (ℤ → ℤ)) → a.held (answers ++ x ∷ []) ≡ d → and_then d (λ value more. accumulate_at s a.op place.bound value more) ≡ gives w rest → ⊥
+      later b m h (gives f more) k e = no_answer_at s a.op place.bound f more rest w e (uses_up a.held answers more b m x f held.asks h k)
       later b m h (wants c n) k e = absurd (cc)
       later b m h (calls u c) k e = absurd (cc)
       later b m h (fails y) k e = absurd (cc)
 
-      by : (d : Demand (ℤ → ℤ)) → a.held answers ≡ d → and_then d (λ value more. accumulate a.op place.bound value more) ≡ wants address None → ⊥
-      by (gives f more) h e = let l : LastRead a.op place.bound f more address None = last_read a.op place.bound f more address None e in absurd (let m : Some a.op ≡ None = l.mark in cc)
+      by : (d : Demand (ℤ → ℤ)) → a.held answers ≡ d → and_then d (λ value more. accumulate_at s a.op place.bound value more) ≡ wants address None → ⊥
+      by (gives f more) h e = let l : LastRead (accumulate_at s a.op place.bound f) a.op f more address None = last_read_at s a.op place.bound f more address None e in absurd (let m : Some a.op ≡ None = l.mark in cc)
       by (wants b m) h e = later b m h (a.held (answers ++ x ∷ [])) refl g
       by (calls u b) h e = absurd (cc)
       by (fails y) h e = absurd (cc)
 
-  never_at_once : (rest : List ℤ) (w : Written) → accumulated place a [] ≡ gives w rest → ⊥
+  never_at_once : (rest : List ℤ) (w : Written) → accumulated s place a [] ≡ gives w rest → ⊥
   never_at_once rest w e = by (a.held []) refl e
     where
-      by : (d : Demand (ℤ → ℤ)) → a.held [] ≡ d → and_then d (λ value more. accumulate a.op place.bound value more) ≡ gives w rest → ⊥
-      by (gives f more) h e = no_answer a.op place.bound f more rest w e (leaves_none a.held more f held.asks h)
+      by : (d : Demand (ℤ → ℤ)) → a.held [] ≡ d → and_then d (λ value more. accumulate_at s a.op place.bound value more) ≡ gives w rest → ⊥
+      by (gives f more) h e = no_answer_at s a.op place.bound f more rest w e (leaves_none a.held more f held.asks h)
       by (wants b m) h e = absurd (cc)
       by (calls u b) h e = absurd (cc)
       by (fails y) h e = absurd (cc)
 
-  accumulated_accumulates : Accumulates (accumulated place a)
+  accumulated_accumulates : Accumulates (accumulated s place a)
   accumulated_accumulates = record {
     combined = marked;
     plain = λ answers rest address x w op e g m. written_last answers rest address x w e g;
@@ -105,13 +124,13 @@ module _ (place : Located) (a : Accumulation) (held : IsHeld a.op a.held) where
   }
 
 -- an assignment that is no accumulation asks in turn, and writes without a mark
-plain_asks : (place : Located) (value : Evaluation) → AsksInTurn Value value → AsksInTurn Written (plainly place value)
-plain_asks place value h =
-    then_asks value (λ v rest. and_then (written_at place.bound rest) (λ address more. gives (record { address = address; value = number_of v; by = None }) more)) h
-    (λ v. then_asks (written_at place.bound) (λ address more. gives (record { address = address; value = number_of v; by = None }) more) (written_asks place.bound) (λ address. given (record { address = address; value = number_of v; by = None })))
+plain_asks : (s : Setting) (place : Located) (value : Evaluation) → AsksInTurn Value value → AsksInTurn Written (plainly s place value)
+plain_asks s place value h =
+    then_asks value (λ v rest. and_then (written_at s place.bound rest) (λ address more. gives (record { address = address; value = number_of v; by = None }) more)) h
+    (λ v. then_asks (written_at s place.bound) (λ address more. gives (record { address = address; value = number_of v; by = None }) more) (written_asks s place.bound) (λ address. given (record { address = address; value = number_of v; by = None })))
 
-plain_write : (place : Located) (value : Evaluation) (answers rest : List ℤ) (w : Written) → plainly place value answers ≡ gives w rest → w.by ≡ None
-plain_write place value answers rest w e = by (value answers) e
+plain_write : (s : Setting) (place : Located) (value : Evaluation) (answers rest : List ℤ) (w : Written) → plainly s place value answers ≡ gives w rest → w.by ≡ None
+plain_write s place value answers rest w e = by (value answers) e
   where
     then : (v : Value) (d : Demand ℕ) → and_then d (λ address more. gives (record { address = address; value = number_of v; by = None }) more) ≡ gives w rest → w.by ≡ None
     then v (gives address more) e = let same : record { address = address; value = number_of v; by = None } ≡ w = cc in ap (λ x. x.by) (sym same)
@@ -119,22 +138,22 @@ plain_write place value answers rest w e = by (value answers) e
     then v (calls u b) e = absurd (cc)
     then v (fails y) e = absurd (cc)
 
-    by : (d : Demand Value) → and_then d (λ v more. and_then (written_at place.bound more) (λ address left. gives (record { address = address; value = number_of v; by = None }) left)) ≡ gives w rest → w.by ≡ None
-    by (gives v more) e = then v (written_at place.bound more) e
+    by : (d : Demand Value) → and_then d (λ v more. and_then (written_at s place.bound more) (λ address left. gives (record { address = address; value = number_of v; by = None }) left)) ≡ gives w rest → w.by ≡ None
+    by (gives v more) e = then v (written_at s place.bound more) e
     by (wants b m) e = absurd (cc)
     by (calls u b) e = absurd (cc)
     by (fails y) e = absurd (cc)
 
-plainly_accumulates : (place : Located) (value : Evaluation) → AsksInTurn Value value → Accumulates (plainly place value)
-plainly_accumulates place value h = record {
-  combined = λ answers address op e. let n : Some op ≡ None = unmarked (plainly place value) answers address (Some op) (plain_asks place value h) e in absurd (cc);
-  plain = λ answers rest address x w op e g m. let n : Some op ≡ None = sym m ∙ plain_write place value (answers ++ x ∷ []) rest w g in absurd (cc);
-  fresh = λ rest w op e m. let n : Some op ≡ None = sym m ∙ plain_write place value [] rest w e in absurd (cc);
+plainly_accumulates : (s : Setting) (place : Located) (value : Evaluation) → AsksInTurn Value value → Accumulates (plainly s place value)
+plainly_accumulates s place value h = record {
+  combined = λ answers address op e. let n : Some op ≡ None = unmarked (plainly s place value) answers address (Some op) (plain_asks s place value h) e in absurd (cc);
+  plain = λ answers rest address x w op e g m. let n : Some op ≡ None = sym m ∙ plain_write s place value (answers ++ x ∷ []) rest w g in absurd (cc);
+  fresh = λ rest w op e m. let n : Some op ≡ None = sym m ∙ plain_write s place value [] rest w e in absurd (cc);
 }
 
-either_accumulates : (o : Option Accumulation) (place : Located) (value : Evaluation) → IfAccumulates o → AsksInTurn Value value → Accumulates (written_by o place value)
-either_accumulates None place value i h = plainly_accumulates place value h
-either_accumulates (Some a) place value i h = accumulated_accumulates place a i
+either_accumulates : (s : Setting) (o : Option Accumulation) (place : Located) (value : Evaluation) → IfAccumulates o → AsksInTurn Value value → Accumulates (written_by s o place value)
+either_accumulates s None place value i h = plainly_accumulates s place value h
+either_accumulates s (Some a) place value i h = accumulated_accumulates s place a i
 
 -- what comes after an evaluation that asks in turn, and leaves no answer that it needn't
 module _ {A : Type 0} (d : List ℤ → Demand A) (go : A → List ℤ → Demand Written) (asks : AsksInTurn A d) (goes : (value : A) → Accumulates (go value)) where
@@ -182,5 +201,5 @@ module _ {A : Type 0} (d : List ℤ → Demand A) (go : A → List ℤ → Deman
 -- each assignment
 pub written_accumulates : (s : Setting) (target : Ref) (value : Expr) → Accumulates (written_of s target value)
 written_accumulates s target value =
-    then_accumulates (location_of s target) (λ place rest. written_by (accumulation_of s target value) place (demand_of s value) rest) (location_asks s target)
-    (λ place. either_accumulates (accumulation_of s target value) place (demand_of s value) (accumulates s target value) (demand_asks s value))
+    then_accumulates (location_of s target) (λ place rest. written_by s (accumulation_of s target value) place (demand_of s value) rest) (location_asks s target)
+    (λ place. either_accumulates s (accumulation_of s target value) place (demand_of s value) (accumulates s target value) (demand_asks s value))

@@ -1,16 +1,16 @@
 -- The line of a PRINT isn't past its limit.
-use Rattle.std.proofs.Common.{◌≡◌, ℕ, ◌+◌, ◌≤◌, ℤ, List, [], ◌∷◌, ◌++◌, length, drop, Bool, true, false, Option, None, Some, refl, if◌then◌else◌, arith, length-append}
+use Rattle.std.proofs.Common.{◌≡◌, ℕ, zero, suc, ◌+◌, ◌-◌, ◌≤◌, ℤ, List, [], ◌∷◌, ◌++◌, length, drop, Bool, true, false, Option, None, Some, refl, if◌then◌else◌, arith, length-append}
 use Rattle.std.proofs.lemmas.Bool.{leb-true}
-use Rattle.std.specs.Prelude.{nat_le, nat_lt}
+use Rattle.std.specs.Prelude.{nat_le}
 use Rattle.f77_ast.specs.Limits.{most_line_bytes}
 use Rattle.f77_ast.specs.declared.program.Entity.{Entity}
 use Rattle.f77_ast.specs.declared.stmt.Item.{Item}
 use Rattle.f77_ast.specs.declared.stmt.Item as item
 use Rattle.f77_structure.specs.Arrays.{array_named}
-use Rattle.f77_structure.specs.Storage.{start_of, storage_units_of}
-use Rattle.f77_structure.specs.Values.{Value, value_of_units}
+use Rattle.f77_structure.specs.Storage.{elements_of}
+use Rattle.f77_structure.specs.Values.{Value}
 use Rattle.f77_meaning.specs.Demand.{Demand, gives, wants, calls, fails, demand_of, Setting}
-use Rattle.f77_meaning.specs.Print.{Printing, Printed, asks, enters, whole, stops, text_of, with_text, or_blank, next_item, next_cell, within_limit, after_value, ask_element, after_elements, after_array_or_value, after_item, after_items, printed_of}
+use Rattle.f77_meaning.specs.Print.{Printing, Printed, asks, enters, whole, stops, text_of, with_text, or_blank, next_item, next_cell, within_limit, after_value, element_after, after_elements, after_array_or_value, after_item, after_items, printed_of}
 use Rattle.f77_meaning.specs.Process.{Frame}
 
 -- a line that was made isn't past its limit
@@ -34,30 +34,23 @@ text_short line text go h = by (nat_le (length line + (1 + length text)) most_li
         h (line ++ (32 ∷ text)) (omega (arith, few, length-append line (32 ∷ text)))
     by false e = tt
 
-value_short : (d : Demand Value) (p : Printing) (go : Printing → Printed) → GoesShort go → length p.line ≤ most_line_bytes → IsShort (after_value d p go)
-value_short (gives value rest) p go h few = text_short p.line (text_of value) (λ line. go (next_item p line)) (λ more fits. h (next_item p more) fits)
+value_short : (d : Demand Value) (p : Printing) (go : List ℕ → Printed) → ((line : List ℕ) → length line ≤ most_line_bytes → IsShort (go line)) → length p.line ≤ most_line_bytes → IsShort (after_value d p go)
+value_short (gives value rest) p go h few = text_short p.line (text_of value) go h
 value_short (wants address by) p go h few = few
 value_short (calls unit bindings) p go h few = tt
 value_short (fails fault) p go h few = tt
 
-element_short : (array : Entity) (p : Printing) (go : Printing → Printed) → GoesShort go → length p.line ≤ most_line_bytes → IsShort (ask_element array p go)
-element_short array p go h few = by (nat_lt p.frame.cells (storage_units_of array))
-  where
-    by : (left : Bool) → IsShort (if left then asks (start_of array + p.frame.cells) None p else go (next_item p p.line))
-    by true = few
-    by false = h (next_item p p.line) few
+elements_short : (s : Setting) (array : Entity) (left : ℕ) (p : Printing) (go : Printing → Printed) → GoesShort go → length p.line ≤ most_line_bytes → IsShort (after_elements s array left p go)
+elements_short s array zero p go h few = h (next_item p p.line) few
+elements_short s array (suc left) p go h few =
+    value_short (element_after s array array.place p.frame.cells p.frame.answers) p (λ line. after_elements s array left (next_cell p line) go) (λ line fits. elements_short s array left (next_cell p line) go h fits) few
 
-elements_short : (array : Entity) (answers : List ℤ) (p : Printing) (go : Printing → Printed) → GoesShort go → length p.line ≤ most_line_bytes → IsShort (after_elements array answers p go)
-elements_short array [] p go h few = element_short array p go h few
-elements_short array (value ∷ rest) p go h few =
-    text_short p.line (text_of (value_of_units array.kind (value ∷ []))) (λ line. ask_element array (next_cell p line) go) (λ more fits. element_short array (next_cell p more) go h fits)
-
-array_or_value_short : (o : Option Entity) (value : List ℤ → Demand Value) (p : Printing) (go : Printing → Printed) → GoesShort go → length p.line ≤ most_line_bytes → IsShort (after_array_or_value o value p go)
-array_or_value_short (Some array) value p go h few = elements_short array p.frame.answers p go h few
-array_or_value_short None value p go h few = value_short (value p.frame.answers) p go h few
+array_or_value_short : (s : Setting) (o : Option Entity) (value : List ℤ → Demand Value) (p : Printing) (go : Printing → Printed) → GoesShort go → length p.line ≤ most_line_bytes → IsShort (after_array_or_value s o value p go)
+array_or_value_short s (Some array) value p go h few = elements_short s array (elements_of array - p.frame.cells) p go h few
+array_or_value_short s None value p go h few = value_short (value p.frame.answers) p (λ line. go (next_item p line)) (λ line fits. h (next_item p line) fits) few
 
 item_short : (s : Setting) (i : Item) (p : Printing) (go : Printing → Printed) → GoesShort go → length p.line ≤ most_line_bytes → IsShort (after_item s i p go)
-item_short s (item.Plain expr) p go h few = array_or_value_short (array_named s.program.layout s.unit expr) (demand_of s expr) p go h few
+item_short s (item.Plain expr) p go h few = array_or_value_short s (array_named s.program.layout s.unit expr) (demand_of s expr) p go h few
 item_short s (item.Implied' items rest control) p go h few = h (next_item p p.line) few
 
 or_blank_short : (line : List ℕ) → length line ≤ most_line_bytes → length (or_blank line) ≤ most_line_bytes

@@ -9,7 +9,8 @@ use Rattle.f77_ast.specs.declared.expr.Kind.TheVariants as kind
 use Rattle.f77_ast.specs.declared.expr.Expr.{Expr}
 use Rattle.f77_ast.specs.declared.expr.Expr.TheOpen.{Expr-F, Part-F, Ref-F}
 use Rattle.f77_ast.specs.declared.expr.Expr.TheOpen as layer
-use Rattle.f77_ast.specs.declared.expr.Expr.TheFolds.{fold-Expr, fold-Ref}
+use Rattle.f77_ast.specs.declared.expr.Expr.TheFolds.{fold-Expr, fold-Part, fold-Ref}
+use Rattle.f77_ast.specs.declared.expr.Part.{Part}
 use Rattle.f77_ast.specs.declared.expr.Ref.{Ref}
 use Rattle.f77_ast.specs.declared.program.Entity.{Entity}
 use Rattle.f77_ast.specs.declared.program.Place.{Place}
@@ -102,6 +103,11 @@ number_of value = only_number (units_of_value value)
 abbrev pub Location : Type 0
 Location = List ℤ → Demand Located
 
+-- a reference, or a substring of it, which has no meaning yet; no accepted program has one
+abbrev pub located_part : Option Bounds → Location → Location
+located_part None place answers = place answers
+located_part (Some bounds) place answers = fails Substring
+
 -- a reference that is an expression: the value of what it stands for, which is also what it binds a dummy to
 abbrev pub referenced : (Located → Evaluation) → Location → Term
 referenced value place = record { value = λ answers. and_then (place answers) value; argument = λ answers. and_then (place answers) (λ at rest. gives at.bound rest) }
@@ -168,11 +174,6 @@ module _ (s : Setting) where
   located None args answers = fails Subscript
   located (Some entity) args answers = located_by entity entity.place args answers
 
-  -- the same, or a substring of it, which has no meaning yet; no accepted program has one
-  abbrev pub located_part : Option Bounds → Location → Location
-  located_part None place answers = place answers
-  located_part (Some bounds) place answers = fails Substring
-
   -- one level: the left operand before the right one; a reference reads its subscript, and then its addresses
   abbrev pub expr_step : Expr-F Term Bounds Location → Term
   expr_step (layer.Int value) = term (λ answers. gives (integer value) answers)
@@ -194,7 +195,11 @@ module _ (s : Setting) where
   abbrev pub term_of : Expr → Term
   term_of = fold-Expr Term Bounds Location expr_step part_step ref_step
 
-  -- its value
+  -- the bounds of a substring
+  abbrev pub bounds_of : Part → Bounds
+  bounds_of = fold-Part Term Bounds Location expr_step part_step ref_step
+
+  -- the value of an expression
   abbrev pub demand_of : Expr → Evaluation
   demand_of expr = (term_of expr).value
 

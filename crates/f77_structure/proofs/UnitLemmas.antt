@@ -93,7 +93,12 @@ pub do_executes : (s : Stmt) (label : ℕ) → terminal_label s ≡ Some label �
 do_executes (stmt.Do terminal control) label e = refl
 do_executes _ label e = absurd (cc)
 
--- and so is a terminal statement
+-- a DO statement is no END
+pub do_goes_on : (s : Stmt) (label : ℕ) → terminal_label s ≡ Some label → goes_on s
+do_goes_on End label e = absurd (cc)
+do_goes_on _ label e = tt
+
+-- a terminal statement is executable
 pub terminal_executes : (s : Stmt) → IsTrue (may_end_range s) → is_executable s ≡ true
 terminal_executes (stmt.Program name) e = absurd (cc)
 terminal_executes (stmt.Subroutine name dummies) e = absurd (cc)
