@@ -1,5 +1,5 @@
 -- Items of a line of PRINT.
-use Rattle.std.proofs.Common.{◌≡◌, ℤ, IsTrue, ◌&&◌, ℕ, zero, suc, ◌+◌, ◌<◌, ◌≤◌, List, [], ◌∷◌, ◌++◌, length, take, drop, get_or, Bool, true, false, None, Some, refl, subst, ap, ◌∙◌, arith}
+use Rattle.std.proofs.Common.{◌≡◌, ℤ, IsTrue, ◌&&◌, ℕ, zero, suc, ◌+◌, ◌-◌, ◌*◌, ◌<◌, ◌≤◌, List, [], ◌∷◌, ◌++◌, length, take, drop, get_or, Bool, true, false, None, Some, refl, subst, ap, ◌∙◌, arith}
 use Rattle.std.specs.List.{list_all}
 use Rattle.std.specs.Prelude.{nat_le}
 use Rattle.f77_ast.specs.Limits.{most_line_bytes}
@@ -10,13 +10,18 @@ use Rattle.hyb_base.specs.Decimal.{decimal_of}
 use Rattle.f77_ast.specs.declared.expr.Kind.{Kind}
 use Rattle.f77_ast.specs.declared.expr.Kind.TheVariants.{Integer, Logical, Character}
 use Rattle.f77_ast.specs.declared.program.Entity.{Entity}
+use Rattle.f77_ast.specs.declared.program.Place.{Place}
+use Rattle.f77_ast.specs.declared.program.Place.TheVariants.{Stored, Dummy, Constant}
 use Rattle.f77_structure.specs.HasMeaning.{is_integer_vector}
-use Rattle.f77_structure.specs.Storage.{is_stored, is_vector}
-use Rattle.f77_structure.specs.Values.{is_integer_kind, value_of_units}
-use Rattle.f77_meaning.specs.Print.{Printing, Printed, after_elements, ask_element, next_cell, text_of, with_text, within_limit}
+use Rattle.f77_structure.specs.Storage.{elements_of, is_stored, is_vector, region_at, start_by, start_of}
+use Rattle.f77_structure.specs.Values.{integer, is_integer_kind}
+use Rattle.f77_meaning.specs.Print.{Printing, Printed, asks, after_elements, after_value, element_after, next_cell, next_item, with_text, within_limit}
+use Rattle.f77_meaning.specs.Demand.{Setting, and_then, cell_value, gives, value_of_bound, width}
+use Rattle.f77_meaning.specs.Process.{placed}
 use Rattle.f77_machine.specs.Print.{AsksWithin, BeginsWith}
 use Rattle.f77_machine.specs.declared.print.Printed as machine
 use Rattle.f77_machine.specs.declared.print.Printed.TheVariants.{GoesOn, Asks, Stops}
+use Rattle.f77_machine.proofs.Cells.{cell_at}
 use Rattle.f77_machine.proofs.Meanings.{second}
 use Rattle.f77_machine.specs.Reads.{item_reads, most_reads}
 
@@ -86,7 +91,7 @@ most_left layout unit (suc place) [] = omega arith
 most_left layout unit (suc place) (item ∷ items) = omega (arith, most_left layout unit place items)
 
 -- an INTEGER array is of INTEGER
-kind_is : (array : Entity) → IsTrue (is_integer_vector (Some array)) → array.kind ≡ Integer
+pub kind_is : (array : Entity) → IsTrue (is_integer_vector (Some array)) → array.kind ≡ Integer
 kind_is array h = by array.kind (is_stored array.place && is_vector array.bounds) h
   where
     by : (k : Kind) (b : Bool) → IsTrue (is_integer_kind k && b) → k ≡ Integer
@@ -94,11 +99,54 @@ kind_is array h = by array.kind (is_stored array.place && is_vector array.bounds
     by Logical b h = absurd (cc)
     by Character b h = absurd (cc)
 
--- an element that was read goes into the line, and the next one is asked for
-pub element_goes : (array : Entity) (p : Printing) (number : ℤ) (rest : List ℤ) (line : List ℕ) (go : Printing → Printed) → IsTrue (is_integer_vector (Some array)) → with_text p.line (decimal_of number) ≡ Some line → after_elements array (number ∷ rest) p go ≡ ask_element array (next_cell p line) go
-element_goes array p number rest line go means e =
-    ap (λ k. within_limit (with_text p.line (text_of (value_of_units k (number ∷ [])))) (λ more. ask_element array (next_cell p more) go)) (kind_is array means)
-    ∙ ap (λ o. within_limit o (λ more. ask_element array (next_cell p more) go)) e
+-- and it is stored
+pub place_is : (array : Entity) → IsTrue (is_integer_vector (Some array)) → array.place ≡ Stored (start_of array)
+place_is array h = by array.place (is_vector array.bounds) (second (is_integer_kind array.kind) (is_stored array.place && is_vector array.bounds) h)
+  where
+    by : (place : Place) (b : Bool) → IsTrue (is_stored place && b) → place ≡ Stored (start_by place)
+    by (Stored address) b h = refl
+    by (Dummy k) b h = absurd (cc)
+    by (Constant value) b h = absurd (cc)
+
+pub vector_stored : (array : Entity) → IsTrue (is_integer_vector (Some array)) → is_stored array.place ≡ true
+vector_stored array h = ap is_stored (place_is array h)
+
+-- the elements of an array, each one cell
+module _ (s : Setting) (array : Entity) (means : IsTrue (is_integer_vector (Some array))) where
+  element_value : (done : ℕ) (answers : List ℤ) → element_after s array array.place done answers ≡ and_then (cell_value (start_of array + done) answers) (λ number rest. gives (integer number) rest)
+  element_value done answers =
+      ap (λ place. element_after s array place done answers) (place_is array means)
+      ∙ ap (λ kind. value_of_bound s kind (placed (start_of array + done * width kind array.len) (region_at s.program.layout.regions (start_of array + done * width kind array.len)) array.len) answers) (kind_is array means)
+      ∙ ap (λ n. value_of_bound s Integer (placed (start_of array + n) (region_at s.program.layout.regions (start_of array + n)) array.len) answers) (once done)
+      ∙ cell_at s (start_of array + done) array.len answers
+    where
+      once : (n : ℕ) → n * 1 ≡ n
+      once n = omega arith
+
+  module _ (p : Printing) (go : Printing → Printed) where
+    -- after the elements that are left
+    abbrev left : (n : ℕ) → Printed
+    left n = after_elements s array n p go
+
+    -- one element and those that are left after it
+    one_more : p.frame.cells < elements_of array → left (elements_of array - p.frame.cells) ≡ after_value (and_then (cell_value (start_of array + p.frame.cells) p.frame.answers) (λ number rest. gives (integer number) rest)) p (λ line. after_elements s array (elements_of array - (p.frame.cells + 1)) (next_cell p line) go)
+    one_more h =
+        let more : elements_of array - p.frame.cells ≡ suc (elements_of array - (p.frame.cells + 1)) = omega (arith, h) in
+        ap left more ∙ ap (λ d. after_value d p (λ line. after_elements s array (elements_of array - (p.frame.cells + 1)) (next_cell p line) go)) (element_value p.frame.cells p.frame.answers)
+
+    -- it is asked for
+    pub element_asked : p.frame.cells < elements_of array → p.frame.answers ≡ [] → left (elements_of array - p.frame.cells) ≡ asks (start_of array + p.frame.cells) None p
+    element_asked h none = one_more h ∙ ap (λ answers. after_value (and_then (cell_value (start_of array + p.frame.cells) answers) (λ number rest. gives (integer number) rest)) p (λ line. after_elements s array (elements_of array - (p.frame.cells + 1)) (next_cell p line) go)) none
+
+    -- where it was read it goes into the line
+    pub element_goes : (number : ℤ) (rest : List ℤ) → p.frame.cells < elements_of array → p.frame.answers ≡ number ∷ rest → left (elements_of array - p.frame.cells) ≡ within_limit (with_text p.line (decimal_of number)) (λ line. after_elements s array (elements_of array - (p.frame.cells + 1)) (next_cell p line) go)
+    element_goes number rest h read = one_more h ∙ ap (λ answers. after_value (and_then (cell_value (start_of array + p.frame.cells) answers) (λ number rest. gives (integer number) rest)) p (λ line. after_elements s array (elements_of array - (p.frame.cells + 1)) (next_cell p line) go)) read
+
+    -- where none is left the item is done
+    pub elements_done : elements_of array ≤ p.frame.cells → left (elements_of array - p.frame.cells) ≡ go (next_item p p.line)
+    elements_done h =
+        let none : elements_of array - p.frame.cells ≡ 0 = omega (arith, h) in
+        ap left none
 
 -- what is asked within some needs is asked within greater ones
 pub asks_within : (total need more : ℕ) (some answers : List ℤ) (r : machine.Printed) → need ≤ more → some ≡ answers → AsksWithin total need some r → AsksWithin total more answers r

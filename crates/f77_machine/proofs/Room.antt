@@ -58,8 +58,7 @@ active_bound : (program : Program) (u low high : ℕ) (active : List ActiveLoop)
 active_bound program u low high [] a = omega arith
 active_bound program u low high (loop ∷ outer) a =
     let listing : List Listed = listing_of program.units u in
-    let at : loop.from - 1 ≡ a.0.at = omega (arith, a.0.from) in
-    let rest : length outer ≤ dos (take a.0.at listing) = subst (λ n. length outer ≤ dos (take n listing)) at (active_bound program u (loop.from - 1) loop.last outer a.1) in
+    let rest : length outer ≤ dos (take a.0.at listing) = active_bound program u a.0.at loop.last outer a.1 in
     let more : dos (take (suc a.0.at) listing) ≤ dos (take low listing) = dos_of_more (suc a.0.at) low listing (omega (arith, a.0.from, a.0.above)) in
     omega (arith, rest, more, dos_with a.0.at a.0.label listing a.0.begins)
 

@@ -33,41 +33,41 @@ unblocked true move h = tt
 unblocked false move h = h
 
 module _ (program : Program) (frame : Frame) (below : List Frame) (line : List ℕ) (few : length line ≤ most_line_bytes) where
-  printed : (p : print.Printed) → IsShort p → PrintsShort (print_move frame below line p)
+  printed : (p : print.Printed) → IsShort p → PrintsShort (print_move program frame below line p)
   printed (asks address by p) h = tt
   printed (enters unit bindings p) h = tt
   printed (whole text) h = h
   printed (stops fault) h = tt
 
-  written : (d : Demand Written) → PrintsShort (write_move frame below line d)
+  written : (d : Demand Written) → PrintsShort (write_move program frame below line d)
   written (gives w rest) = unblocked (is_blocked w.address (frame ∷ below)) _ tt
   written (wants address by) = tt
   written (calls unit bindings) = tt
   written (fails fault) = tt
 
-  begun : (o : Option Loop) (d : Demand Begun) → PrintsShort (do_move frame below line o d)
+  begun : (o : Option Loop) (d : Demand Begun) → PrintsShort (do_move program frame below line o d)
   begun None d = tt
   begun (Some loop) (gives b rest) = unblocked (is_blocked b.variable (frame ∷ below)) _ tt
   begun (Some loop) (wants address by) = tt
   begun (Some loop) (calls unit bindings) = tt
   begun (Some loop) (fails fault) = tt
 
-  stated : (s : Stmt) → PrintsShort (statement_move frame below line program s)
+  stated : (s : Stmt) → PrintsShort (statement_move program frame below line s)
   stated (Assign target value) = written (written_of (setting_of program frame) target value frame.answers)
   stated (Do terminal control) = begun (loop_of_do program frame.unit frame.at) (begun_of (setting_of program frame) control frame.answers)
   stated Continue = tt
   stated (Print items) = printed (printed_of (setting_of program frame) items frame line) (printed_short (setting_of program frame) items frame line few)
   stated _ = tt
 
-  here : (found : Option Listed) → PrintsShort (listed_move frame below line program found)
+  here : (found : Option Listed) → PrintsShort (listed_move program frame below line found)
   here None = tt
   here (Some listed) = stated listed.stmt
 
-  turns : (active : List ActiveLoop) → PrintsShort (increment_move frame below line active)
+  turns : (active : List ActiveLoop) → PrintsShort (increment_move program frame below line active)
   turns [] = tt
   turns (loop ∷ outer) = tt
 
-  staged : (stage : Stage) → PrintsShort (stage_move frame below line program stage)
+  staged : (stage : Stage) → PrintsShort (stage_move program frame below line stage)
   staged at_statement = here (listed_of program frame)
   staged at_inner = tt
   staged at_entry = tt

@@ -35,7 +35,7 @@ loops_fit program p text sound is_of =
     omega (arith, no_more_active program p.unit p.at p.at (actives_of p.active.items) sound is_of.stands.frames.0.active, length-actives_of p.active.items, is_of.depth)
 
 -- a step of the incrementation processing
-pub increment_step : (program : Program) (p : Process) (store : List ℤ) (count : ℕ) (input text : List ℕ) → p.stage ≡ Increment → outcome_of_move (increment_move (frame_of p) [] text (actives_of p.active.items)) p store count input text ≡ outcome_of_step program (process_of p text) store count input
+pub increment_step : (program : Program) (p : Process) (store : List ℤ) (count : ℕ) (input text : List ℕ) → p.stage ≡ Increment → outcome_of_move (increment_move program (frame_of p) [] text (actives_of p.active.items)) p store count input text ≡ outcome_of_step program (process_of p text) store count input
 increment_step program p store count input text h =
     ap (λ stage. outcome_of_move (stage_move (frame_of p) [] text program (stage_of stage)) p store count input text) (sym h)
 
@@ -79,10 +79,10 @@ reads_fit program p text listed is_of e =
     one_of (λ l. statement_reads program.layout p.unit l.stmt ≤ p.room) here.unit.listing p.at listed (is_of.room p.unit here.unit here.entered) here.stands
 
 -- it has a meaning
-pub has_meaning : (program : Program) (p : Process) (listed : Listed) → IsSound program → listed_of program (frame_of p) ≡ Some listed → IsTrue (statement_has_meaning program.layout p.unit listed.stmt)
+pub has_meaning : (program : Program) (p : Process) (listed : Listed) → IsSound program → listed_of program (frame_of p) ≡ Some listed → IsTrue (statement_has_meaning program.units program.layout p.unit listed.stmt)
 has_meaning program p listed sound e =
     let here : StandsIn program.units p.unit p.at listed = stands_in program.units p.unit p.at listed e in
-    one_of (λ l. IsTrue (statement_has_meaning program.layout p.unit l.stmt)) here.unit.listing p.at listed (sound.meaning p.unit here.unit here.entered) here.stands
+    one_of (λ l. IsTrue (statement_has_meaning program.units program.layout p.unit l.stmt)) here.unit.listing p.at listed (sound.meaning p.unit here.unit here.entered) here.stands
 
 -- it is one of the file, whose statements are counted with 32 bits
 pub number_fits : (program : Program) (p : Process) (listed : Listed) → IsSound program → listed_of program (frame_of p) ≡ Some listed → statement_number program.units p.unit p.at + 1 < 2 ^ 32

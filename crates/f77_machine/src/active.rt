@@ -6,7 +6,8 @@ ghost use Rattle.f77_machine.specs.Active.{active_of};
 ghost use Rattle.f77_machine.specs.Begun.{as_begun};
 
 use crate::begin::Begun;
-use f77_ast::program::Loop;
+use crate::listing::next_in;
+use f77_ast::program::{Listed, Loop};
 use hyb_base::wrap::{wrap_add, wrap_mul};
 
 /// An active DO-loop: what the execution of its DO statement has fixed, and how many iterations have ended.
@@ -31,17 +32,17 @@ pub struct ActiveLoop {
 }
 
 impl ActiveLoop {
-    /// The loop of a DO statement at a place of a unit, which begins: its range goes on after the DO statement.
-    pub fn new(at: usize, found: Loop, begun: Begun) -> ActiveLoop
+    /// The loop of a DO statement at a place of the statements of a unit, which begins: its range is run from where control
+    /// goes on after the DO statement.
+    pub fn new(listing: &[Listed], at: usize, found: Loop, begun: Begun) -> ActiveLoop
         requires { at < 2 ^ 32 }
-        ensures value { active_of result ≡ active_from at found (as_begun begun) }
+        ensures value { active_of result ≡ active_from listing.now at found (as_begun begun) }
         ensures after { result.last + 1 < 2 ^ 64 }
     {
-        let from = at + 1;
         ActiveLoop {
             ordinal: found.ordinal,
-            from,
-            last: from + found.last.saturating_sub(found.from) as usize,
+            from: next_in(listing, at),
+            last: at + 1 + found.last.saturating_sub(found.from) as usize,
             variable: begun.variable,
             first: begun.first,
             increment: begun.increment,

@@ -14,7 +14,7 @@ use f77_structure::storage::{span_of, vector_span};
 pub fn array_named<'l>(layout: &'l Layout, unit: u32, expr: &Expr) -> Option<&'l Entity>
     requires storage { IsStorage layout.now }
     ensures named { option_copied result ≡ array_named layout.now unit expr.now }
-    ensures lies { IfSome result (λ e. LiesIn (length layout.now.first) e.now) }
+    ensures lies { IfSome result (λ e. LiesIn (length layout.now.first) layout.now.regions e.now) }
 {
     match expr {
         Expr::Int(_) => None,
@@ -31,7 +31,7 @@ pub fn array_named<'l>(layout: &'l Layout, unit: u32, expr: &Expr) -> Option<&'l
 fn array_of_ref<'l>(layout: &'l Layout, unit: u32, reference: &Ref) -> Option<&'l Entity>
     requires storage { IsStorage layout.now }
     ensures named { option_copied result ≡ array_of_ref layout.now unit reference.now }
-    ensures lies { IfSome result (λ e. LiesIn (length layout.now.first) e.now) }
+    ensures lies { IfSome result (λ e. LiesIn (length layout.now.first) layout.now.regions e.now) }
 {
     if reference.args.is_some() || reference.part.is_some() {
         return None;

@@ -39,8 +39,8 @@ pub fn assigned<'a>(
     answers: &'a [i64],
 ) -> Evaluated<'a, Written>
     requires storage { IsStorage program.now.layout }
-    requires target { IsTrue (ref_has_meaning program.now.layout unit target.now) }
-    requires meaning { IsTrue (expr_has_meaning program.now.layout unit value.now) }
+    requires target { IsTrue (ref_has_meaning program.now.units program.now.layout unit target.now) }
+    requires meaning { IsTrue (expr_has_meaning program.now.units program.now.layout unit value.now) }
     ensures value { written_demand result ≡ written_of (setting_in program.now unit) target.now value.now answers.now }
     ensures asks { Asks (length program.now.layout.first) (subscript_reads target.now + reads_in value.now) (length answers.now) result }
     ensures lies { GivesWriteBelow (length program.now.layout.first) result }
@@ -64,9 +64,9 @@ fn plain<'a>(
     rest: &'a [i64],
 ) -> Evaluated<'a, Written>
     requires storage { IsStorage program.now.layout }
-    requires meaning { IsTrue (expr_has_meaning program.now.layout unit value.now) }
+    requires meaning { IsTrue (expr_has_meaning program.now.units program.now.layout unit value.now) }
     requires lies { place.address < length program.now.layout.first }
-    ensures value { written_demand result ≡ plainly (as_located program.now.layout place) (demand_of (setting_in program.now unit) value.now) rest.now }
+    ensures value { written_demand result ≡ plainly (setting_in program.now unit) (as_located program.now.layout place) (demand_of (setting_in program.now unit) value.now) rest.now }
     ensures asks { Asks (length program.now.layout.first) (reads_in value.now) (length rest.now) result }
     ensures lies { GivesWriteBelow (length program.now.layout.first) result }
 {
@@ -96,11 +96,11 @@ fn accumulated<'a>(
     rest: &'a [i64],
 ) -> Evaluated<'a, Written>
     requires storage { IsStorage program.now.layout }
-    requires meaning { IsTrue (expr_has_meaning program.now.layout unit value.now) }
+    requires meaning { IsTrue (expr_has_meaning program.now.units program.now.layout unit value.now) }
     requires lies { place.address < length program.now.layout.first }
     requires first { Some (as_valued first) ≡ option_map (accumulation_at (pos 0) rest.now) (accumulation_of (setting_in program.now unit) target.now value.now) }
     requires asked { Asks (length program.now.layout.first) (reads_in value.now) (1 + length rest.now) first.value }
-    ensures value { (a : Accumulation) → accumulation_of (setting_in program.now unit) target.now value.now ≡ Some a → written_demand result ≡ accumulated (as_located program.now.layout place) a rest.now }
+    ensures value { (a : Accumulation) → accumulation_of (setting_in program.now unit) target.now value.now ≡ Some a → written_demand result ≡ accumulated (setting_in program.now unit) (as_located program.now.layout place) a rest.now }
     ensures asks { Asks (length program.now.layout.first) (reads_in value.now) (length rest.now) result }
     ensures lies { GivesWriteBelow (length program.now.layout.first) result }
 {

@@ -2,8 +2,8 @@
 ghost use Rattle.std.specs.Prelude.{◌≡◌, ◌+◌, ℕ, IsTrue, length};
 ghost use Rattle.f77_ast.specs.Entity.{entity_in};
 ghost use Rattle.f77_structure.specs.HasMeaning.{control_has_meaning, expr_has_meaning, increment_has_meaning, is_integer_variable};
-ghost use Rattle.f77_structure.specs.Storage.{IsStorage};
-ghost use Rattle.f77_meaning.specs.Demand.{and_then, located, number_demand};
+ghost use Rattle.f77_structure.specs.Storage.{IsStorage, region_at};
+ghost use Rattle.f77_meaning.specs.Demand.{Setting, and_then, located, number_demand};
 ghost use Rattle.f77_meaning.specs.Do.{begun_of, begun_with, increment_of};
 ghost use Rattle.f77_meaning.specs.Process.{placed};
 ghost use Rattle.f77_machine.specs.Begun.{begun_demand, as_parameters, GivesVariableBelow};
@@ -44,7 +44,7 @@ pub fn begin<'a>(
     answers: &'a [i64],
 ) -> Evaluated<'a, Begun>
     requires storage { IsStorage program.now.layout }
-    requires meaning { IsTrue (control_has_meaning program.now.layout unit control.now) }
+    requires meaning { IsTrue (control_has_meaning program.now.units program.now.layout unit control.now) }
     ensures value { begun_demand result ≡ begun_of (setting_in program.now unit) control.now answers.now }
     ensures asks { Asks (length program.now.layout.first) (control_reads control.now) (length answers.now) result }
     ensures lies { GivesVariableBelow (length program.now.layout.first) result }
@@ -84,7 +84,7 @@ fn increment<'a>(
     answers: &'a [i64],
 ) -> Evaluated<'a, i64>
     requires storage { IsStorage program.now.layout }
-    requires meaning { IsTrue (increment_has_meaning program.now.layout unit increment.now) }
+    requires meaning { IsTrue (increment_has_meaning program.now.units program.now.layout unit increment.now) }
     ensures value { as_demand result ≡ increment_of (setting_in program.now unit) increment.now answers.now }
     ensures asks { Asks (length program.now.layout.first) (increment_reads increment.now) (length answers.now) result }
 {
@@ -105,7 +105,7 @@ fn begin_by<'a>(
     requires storage { IsStorage program.now.layout }
     requires meaning { IsTrue (is_integer_variable (entity_in program.now.layout.entities unit name.now)) }
     ensures value { begun_demand result
-        ≡ and_then (located (setting_in program.now unit) (entity_in program.now.layout.entities unit name.now) None rest.now) (λ variable more. begun_with variable.bound (as_parameters parameters) more) }
+        ≡ and_then (located (setting_in program.now unit) (entity_in program.now.layout.entities unit name.now) None rest.now) (λ variable more. begun_with (setting_in program.now unit) variable.bound (as_parameters parameters) more) }
     ensures asks { Asks (length program.now.layout.first) 0 (length rest.now) result }
     ensures lies { GivesVariableBelow (length program.now.layout.first) result }
 {
@@ -120,8 +120,9 @@ fn begin_by<'a>(
 }
 
 /// What a DO statement evaluates to, where its parameters and its variable's address are known.
+#[tactic(auto, using(crate::proofs::Cells::begins_inside))]
 fn begin_at<'a>(variable: u32, parameters: Parameters, rest: &'a [i64]) -> Evaluated<'a, Begun>
-    ensures value { (region len : ℕ) → begun_demand result ≡ begun_with (placed variable region len) (as_parameters parameters) rest.now }
+    ensures value { (s : Setting) (len : ℕ) → begun_demand result ≡ begun_with s (placed variable (region_at s.program.layout.regions variable) len) (as_parameters parameters) rest.now }
     ensures asks { Asks 0 0 (length rest.now) result }
     ensures lies { GivesVariableBelow (variable + 1) result }
 {

@@ -1,7 +1,8 @@
 //! The right side of an accumulation to `v`: a chain of operators that begins with `v`, or `e + v` or `e * v`.
-ghost use Rattle.std.specs.Prelude.{◌≡◌, ◌+◌, ◌≤◌, ℕ, suc, IsTrue, IfSome, length};
+ghost use Rattle.std.specs.Prelude.{◌≡◌, ◌+◌, ◌≤◌, ℕ, suc, List, IsTrue, IfSome, length};
 ghost use Rattle.std.specs.Option.{option_map};
 ghost use Rattle.f77_ast.specs.declared.program.Layout.{Layout};
+ghost use Rattle.f77_ast.specs.declared.program.Unit.{Unit as ProgramUnit};
 ghost use Rattle.f77_structure.specs.HasMeaning.{expr_has_meaning};
 ghost use Rattle.f77_structure.specs.Storage.{IsStorage};
 ghost use Rattle.f77_meaning.specs.Assign.{stands_in_sum, stands_in_product, exchanged, is_v, joined_by, held_last, chain_of, last_by, accumulation_of, operation_of, operators_at_left};
@@ -133,8 +134,8 @@ fn outermost(expr: &Expr) -> Option<Operation<'_>>
     ensures value { option_map as_operation result ≡ operation_of expr.now }
     ensures operators { IfSome result (λ o. operators_at_left expr.now ≡ suc (operators_at_left o.left.now)) }
     ensures reads { IfSome result (λ o. reads_in expr.now ≡ reads_in o.left.now + reads_in o.right.now) }
-    ensures meaning { (layout : Layout) (unit : ℕ) → IsTrue (expr_has_meaning layout unit expr.now)
-        → IfSome result (λ o. IsTrue (expr_has_meaning layout unit o.left.now) × IsTrue (expr_has_meaning layout unit o.right.now)) }
+    ensures meaning { (units : List ProgramUnit) (layout : Layout) (unit : ℕ) → IsTrue (expr_has_meaning units layout unit expr.now)
+        → IfSome result (λ o. IsTrue (expr_has_meaning units layout unit o.left.now) × IsTrue (expr_has_meaning units layout unit o.right.now)) }
 {
     match expr {
         Expr::Int(_) => None,
@@ -171,7 +172,7 @@ pub fn held<'a>(
     answers: &'a [i64],
 ) -> Option<Valued<'a>>
     requires storage { IsStorage program.now.layout }
-    requires meaning { IsTrue (expr_has_meaning program.now.layout unit expr.now) }
+    requires meaning { IsTrue (expr_has_meaning program.now.units program.now.layout unit expr.now) }
     ensures value { option_map as_valued result ≡ option_map (accumulation_at x answers.now) (accumulation_of (setting_in program.now unit) v.now expr.now) }
     ensures asks { IfSome result (λ a. Asks (length program.now.layout.first) (reads_in expr.now) (1 + length answers.now) a.value) }
 {
@@ -202,7 +203,7 @@ fn chained<'a>(
     answers: &'a [i64],
 ) -> Option<Evaluated<'a, i64>>
     requires storage { IsStorage program.now.layout }
-    requires meaning { IsTrue (expr_has_meaning program.now.layout unit expr.now) }
+    requires meaning { IsTrue (expr_has_meaning program.now.units program.now.layout unit expr.now) }
     ensures value { option_map as_demand result ≡ option_map (held_at x answers.now) (chain_of (setting_in program.now unit) v.now (stands_in which) expr.now) }
     ensures asks { IfSome result (Asks (length program.now.layout.first) (reads_in expr.now) (1 + length answers.now)) }
 {
@@ -226,7 +227,7 @@ fn longer<'a>(
     right: &Expr,
 ) -> Option<Evaluated<'a, i64>>
     requires storage { IsStorage program.now.layout }
-    requires meaning { IsTrue (expr_has_meaning program.now.layout unit right.now) }
+    requires meaning { IsTrue (expr_has_meaning program.now.units program.now.layout unit right.now) }
     ensures value { option_map as_demand result ≡ option_map (λ d. and_then d (with_operand op (number_demand (setting_in program.now unit) right.now))) (option_map as_demand inner.entry) }
     ensures asks { (need known : ℕ) → IfSome inner.entry (Asks (length program.now.layout.first) need known)
         → IfSome result (Asks (length program.now.layout.first) (need + reads_in right.now) known) }
@@ -248,7 +249,7 @@ fn last<'a>(
     answers: &'a [i64],
 ) -> Option<Valued<'a>>
     requires storage { IsStorage program.now.layout }
-    requires meaning { IsTrue (expr_has_meaning program.now.layout unit expr.now) }
+    requires meaning { IsTrue (expr_has_meaning program.now.units program.now.layout unit expr.now) }
     ensures value { option_map as_valued result ≡ option_map (accumulation_at x answers.now) (last_by (setting_in program.now unit) v.now (operation_of expr.now)) }
     ensures asks { IfSome result (λ a. Asks (length program.now.layout.first) (reads_in expr.now) (1 + length answers.now) a.value) }
 {
@@ -274,7 +275,7 @@ fn before<'a>(
     answers: &'a [i64],
 ) -> Evaluated<'a, i64>
     requires storage { IsStorage program.now.layout }
-    requires meaning { IsTrue (expr_has_meaning program.now.layout unit right.now) }
+    requires meaning { IsTrue (expr_has_meaning program.now.units program.now.layout unit right.now) }
     ensures value { as_demand result ≡ with_operand op (number_demand (setting_in program.now unit) right.now) x answers.now }
     ensures asks { Asks (length program.now.layout.first) (reads_in right.now) (length answers.now) result }
 {
@@ -295,7 +296,7 @@ fn after<'a>(
     answers: &'a [i64],
 ) -> Evaluated<'a, i64>
     requires storage { IsStorage program.now.layout }
-    requires meaning { IsTrue (expr_has_meaning program.now.layout unit left.now) }
+    requires meaning { IsTrue (expr_has_meaning program.now.units program.now.layout unit left.now) }
     ensures value { as_demand result ≡ held_at x answers.now (held_last op (number_demand (setting_in program.now unit) left.now)) }
     ensures asks { Asks (length program.now.layout.first) (reads_in left.now) (length answers.now) result }
 {

@@ -3,11 +3,10 @@ ghost use Rattle.std.specs.Prelude.{◌≡◌, ◌+◌, ◌<◌, ◌≤◌, ◌^
 ghost use Rattle.std.specs.Option.{option_map};
 ghost use Rattle.f77_ast.specs.declared.expr.Expr.{Binary};
 ghost use Rattle.f77_ast.specs.declared.expr.Kind.TheVariants.{Integer};
-ghost use Rattle.f77_ast.specs.declared.program.Layout.{Layout};
 ghost use Rattle.f77_structure.specs.HasMeaning.{expr_has_meaning, ref_has_meaning, names_integer};
 ghost use Rattle.f77_structure.specs.Storage.{IsStorage, LiesIn};
 ghost use Rattle.f77_structure.specs.Values.{integer, is_sign, is_arithmetic, number_or_zero_divisor, unary_of, binary_of};
-ghost use Rattle.f77_meaning.specs.Demand.{demand_of, location_of, located, value_at, operated};
+ghost use Rattle.f77_meaning.specs.Demand.{Setting, demand_of, location_of, located, term_of, value_at, operated};
 ghost use Rattle.f77_machine.specs.Evaluated.{as_located, located_demand, value_demand, Asks, GivesIntegerBelow};
 ghost use Rattle.f77_machine.specs.Reads.{reads_in, args_reads, subscript_reads};
 ghost use Rattle.f77_machine.specs.Setting.{setting_in};
@@ -30,7 +29,7 @@ pub fn demand<'a>(
     answers: &'a [i64],
 ) -> Evaluated<'a, i64>
     requires storage { IsStorage program.now.layout }
-    requires meaning { IsTrue (expr_has_meaning program.now.layout unit expr.now) }
+    requires meaning { IsTrue (expr_has_meaning program.now.units program.now.layout unit expr.now) }
     ensures value { value_demand result ≡ demand_of (setting_in program.now unit) expr.now answers.now }
     ensures asks { Asks (length program.now.layout.first) (reads_in expr.now) (length answers.now) result }
 {
@@ -76,10 +75,10 @@ fn operands_have_meaning(
     right: &Expr,
 )
     requires is { expr.now ≡ Binary op left.now right.now }
-    requires meaning { IsTrue (expr_has_meaning program.now.layout unit expr.now) }
+    requires meaning { IsTrue (expr_has_meaning program.now.units program.now.layout unit expr.now) }
     ensures op { IsTrue (is_arithmetic op) }
-    ensures left { IsTrue (expr_has_meaning program.now.layout unit left.now) }
-    ensures right { IsTrue (expr_has_meaning program.now.layout unit right.now) }
+    ensures left { IsTrue (expr_has_meaning program.now.units program.now.layout unit left.now) }
+    ensures right { IsTrue (expr_has_meaning program.now.units program.now.layout unit right.now) }
 {}
 
 /// What a reference stands for: a variable, or an array's element, whose subscript is evaluated first
@@ -92,7 +91,7 @@ pub fn location<'a>(
     answers: &'a [i64],
 ) -> Evaluated<'a, Located>
     requires storage { IsStorage program.now.layout }
-    requires meaning { IsTrue (ref_has_meaning program.now.layout unit reference.now) }
+    requires meaning { IsTrue (ref_has_meaning program.now.units program.now.layout unit reference.now) }
     ensures value { located_demand program.now.layout result ≡ location_of (setting_in program.now unit) reference.now answers.now }
     ensures asks { Asks (length program.now.layout.first) (subscript_reads reference.now) (length answers.now) result }
     ensures lies { GivesIntegerBelow (length program.now.layout.first) result }
@@ -113,9 +112,9 @@ fn located<'a>(
     answers: &'a [i64],
 ) -> Evaluated<'a, Located>
     requires storage { IsStorage program.now.layout }
-    requires lies { LiesIn (length program.now.layout.first) entity.now }
-    requires meaning { IsTrue (names_integer (Some entity.now) (option_map (map (expr_has_meaning program.now.layout unit)) args.now)) }
-    ensures value { located_demand program.now.layout result ≡ located (setting_in program.now unit) (Some entity.now) (option_map (map (demand_of (setting_in program.now unit))) args.now) answers.now }
+    requires lies { LiesIn (length program.now.layout.first) program.now.layout.regions entity.now }
+    requires meaning { IsTrue (names_integer (Some entity.now) (option_map (map (expr_has_meaning program.now.units program.now.layout unit)) args.now)) }
+    ensures value { located_demand program.now.layout result ≡ located (setting_in program.now unit) (Some entity.now) (option_map (map (term_of (setting_in program.now unit))) args.now) answers.now }
     ensures asks { Asks (length program.now.layout.first) (args_reads (option_map (map reads_in) args.now)) (length answers.now) result }
     ensures lies { GivesIntegerBelow (length program.now.layout.first) result }
 {
@@ -137,7 +136,7 @@ fn located<'a>(
 #[tactic(auto, using(crate::proofs::Cells::one_cell))]
 fn integer_at<'a>(place: Located, rest: &'a [i64]) -> Evaluated<'a, i64>
     requires { place.kind ≡ Integer }
-    ensures value { (layout : Layout) → value_demand result ≡ value_at (as_located layout place) rest.now }
+    ensures value { (s : Setting) → value_demand result ≡ value_at s (as_located s.program.layout place) rest.now }
     ensures asks { Asks (place.address + 1) 1 (length rest.now) result }
 {
     match rest.split_first() {

@@ -12,6 +12,7 @@ mod chain;
 mod count;
 pub mod demand;
 pub mod evaluated;
+mod listing;
 mod loops;
 mod place;
 mod print;

@@ -29,7 +29,7 @@ pub struct Located {
 pub fn entity<'l>(layout: &'l Layout, unit: u32, name: &Name) -> Option<&'l Entity>
     requires storage { IsStorage layout.now }
     ensures found { option_copied result ≡ entity_in layout.now.entities unit name.now }
-    ensures lies { IfSome result (λ e. LiesIn (length layout.now.first) e.now) }
+    ensures lies { IfSome result (λ e. LiesIn (length layout.now.first) layout.now.regions e.now) }
 {
     let found = layout.entities.find(unit, name)?;
     Some(found)

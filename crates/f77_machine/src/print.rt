@@ -1,12 +1,12 @@
 //! The items of PRINT (ANSI X3.9-1978, section 12.8).
-ghost use Rattle.std.specs.Prelude.{◌≡◌, ◌+◌, ◌<◌, ◌≤◌, ◌^◌, ℕ, List, [], IsTrue, IfErr, Some, length};
+ghost use Rattle.std.specs.Prelude.{◌≡◌, ◌+◌, ◌-◌, ◌<◌, ◌≤◌, ◌^◌, ℕ, List, [], IsTrue, IfErr, Some, length};
 ghost use Rattle.std.specs.List.{list_all};
 ghost use Rattle.hyb_base.specs.Decimal.{decimal_of};
 ghost use Rattle.f77_ast.specs.declared.fault.Fault.TheVariants.{LineLimit};
 ghost use Rattle.f77_structure.specs.HasMeaning.{expr_has_meaning, is_integer_vector, item_has_meaning};
-ghost use Rattle.f77_structure.specs.Storage.{IsStorage, start_of, storage_units_of};
-ghost use Rattle.f77_meaning.specs.Demand.{demand_of};
-ghost use Rattle.f77_meaning.specs.Print.{after_elements, after_item, after_items, after_value, ask_element, next_cell, next_item, with_text};
+ghost use Rattle.f77_structure.specs.Storage.{IsStorage, elements_of, start_of, storage_units_of};
+ghost use Rattle.f77_meaning.specs.Demand.{Setting, demand_of};
+ghost use Rattle.f77_meaning.specs.Print.{after_elements, after_item, after_items, after_value, next_cell, next_item, with_text};
 ghost use Rattle.f77_meaning.specs.Print as meaning;
 ghost use Rattle.f77_meaning.specs.Process.{Frame};
 ghost use Rattle.f77_io.specs.Line.{text_of};
@@ -22,7 +22,7 @@ use f77_ast::fault::Fault;
 use f77_ast::program::{Entity, Program};
 use f77_ast::stmt::Item;
 use f77_io::line::Line;
-use f77_structure::storage::start;
+use f77_structure::storage::stored_at;
 use hyb_base::ops::RedOp;
 
 /// How far a PRINT is.
@@ -67,6 +67,7 @@ impl<'a> Printing<'a> {
         ensures next { (frame : Frame) (line old : List ℕ) → as_printing frame result line ≡ next_cell (as_printing frame self.entry old) line }
         ensures answers { result.answers.now ≡ [] }
         ensures items { result.items ≡ self.entry.items }
+        ensures cells { result.cells ≡ self.entry.cells + 1 }
     {
         Printing {
             items: self.items,
@@ -94,11 +95,11 @@ fn print_value<'a>(
     line: &mut Line,
 ) -> Printed<'a>
     requires storage { IsStorage program.now.layout }
-    requires meaning { IsTrue (expr_has_meaning program.now.layout unit expr.now) }
+    requires meaning { IsTrue (expr_has_meaning program.now.units program.now.layout unit expr.now) }
     requires few { at.items + 1 < 2 ^ 64 }
     requires cells { at.cells < 2 ^ 32 }
     ensures value { (frame : Frame) (go : meaning.Printing → meaning.Printed) → go_on frame result (text_of line.new) go
-        ≡ after_value (demand_of (setting_in program.now unit) expr.now at.entry.answers.now) (as_printing frame at.entry (text_of line.old)) go }
+        ≡ after_value (demand_of (setting_in program.now unit) expr.now at.entry.answers.now) (as_printing frame at.entry (text_of line.old)) (λ text. go (next_item (as_printing frame at.entry (text_of line.old)) text)) }
     ensures asks { AsksWithin (length program.now.layout.first) (reads_in expr.now) at.entry.answers.now result }
     ensures follows { Follows at.entry result }
     ensures begins { BeginsWith (text_of line.new) (text_of line.old) }
@@ -113,17 +114,30 @@ fn print_value<'a>(
     }
 }
 
+/// The first address of an array that is stored.
+fn first_address(array: &Entity) -> u32
+    requires meaning { IsTrue (is_integer_vector (Some array.now)) }
+    ensures { result ≡ start_of array.now }
+{
+    match stored_at(&array.place) {
+        Some(first) => first,
+        None => unreachable!(),
+    }
+}
+
 /// Reads the next element of an array; where there is none, the item is done.
 fn ask_element<'a>(array: &Entity, at: Printing<'a>) -> Printed<'a>
     requires within { start_of array.now + storage_units_of array.now ≤ 2 ^ 32 }
+    requires meaning { IsTrue (is_integer_vector (Some array.now)) }
     requires few { at.items + 1 < 2 ^ 64 }
     requires unread { at.answers.now ≡ [] }
-    ensures value { (frame : Frame) (go : meaning.Printing → meaning.Printed) (line : List ℕ) → go_on frame result line go ≡ ask_element array.now (as_printing frame at.entry line) go }
+    ensures value { (s : Setting) (frame : Frame) (go : meaning.Printing → meaning.Printed) (line : List ℕ) → go_on frame result line go
+        ≡ after_elements s array.now (elements_of array.now - at.entry.cells) (as_printing frame at.entry line) go }
     ensures asks { AsksWithin (start_of array.now + storage_units_of array.now) 1 at.entry.answers.now result }
     ensures follows { Follows at.entry result }
 {
     if at.cells < storage_units(array) {
-        Printed::Asks(start(array) + at.cells as u32, None, at)
+        Printed::Asks(first_address(array) + at.cells as u32, None, at)
     } else {
         Printed::GoesOn(at.next_item())
     }
@@ -136,18 +150,23 @@ fn print_element<'a>(array: &Entity, at: Printing<'a>, line: &mut Line) -> Print
     requires meaning { IsTrue (is_integer_vector (Some array.now)) }
     requires few { at.items + 1 < 2 ^ 64 }
     requires cells { at.cells < 2 ^ 32 }
-    ensures value { (frame : Frame) (go : meaning.Printing → meaning.Printed) → go_on frame result (text_of line.new) go
-        ≡ after_elements array.now at.entry.answers.now (as_printing frame at.entry (text_of line.old)) go }
+    ensures value { (s : Setting) (frame : Frame) (go : meaning.Printing → meaning.Printed) → go_on frame result (text_of line.new) go
+        ≡ after_elements s array.now (elements_of array.now - at.entry.cells) (as_printing frame at.entry (text_of line.old)) go }
     ensures asks { AsksWithin (start_of array.now + storage_units_of array.now) 1 at.entry.answers.now result }
     ensures follows { Follows at.entry result }
     ensures begins { BeginsWith (text_of line.new) (text_of line.old) }
 {
     match at.answers.split_first() {
         None => ask_element(array, at),
-        Some((number, _rest)) => match push(*number, line) {
-            Ok(()) => ask_element(array, at.next_cell()),
-            Err(fault) => Printed::Stops(fault),
-        },
+        Some((number, _rest)) => {
+            if at.cells >= storage_units(array) {
+                return Printed::GoesOn(at.next_item());
+            }
+            match push(*number, line) {
+                Ok(()) => ask_element(array, at.next_cell()),
+                Err(fault) => Printed::Stops(fault),
+            }
+        }
     }
 }
 
@@ -160,7 +179,7 @@ fn print_item<'a>(
     line: &mut Line,
 ) -> Printed<'a>
     requires storage { IsStorage program.now.layout }
-    requires meaning { IsTrue (item_has_meaning program.now.layout unit item.now) }
+    requires meaning { IsTrue (item_has_meaning program.now.units program.now.layout unit item.now) }
     requires few { at.items + 1 < 2 ^ 64 }
     requires cells { at.cells < 2 ^ 32 }
     ensures value { (frame : Frame) (go : meaning.Printing → meaning.Printed) → go_on frame result (text_of line.new) go
@@ -187,7 +206,7 @@ pub fn print_items<'a>(
     line: &mut Line,
 ) -> Printed<'a>
     requires storage { IsStorage program.now.layout }
-    requires meaning { IsTrue (list_all (item_has_meaning program.now.layout unit) items.now) }
+    requires meaning { IsTrue (list_all (item_has_meaning program.now.units program.now.layout unit) items.now) }
     requires few { from.items + length items.now < 2 ^ 64 }
     requires cells { from.cells < 2 ^ 32 }
     ensures value { (frame : Frame) → as_printed frame result (text_of line.new) ≡ after_items (setting_in program.now unit) items.now (as_printing frame from.entry (text_of line.old)) }

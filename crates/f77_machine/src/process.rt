@@ -1,6 +1,5 @@
 //! Processes: one step at a time through the statements of a program.
-ghost use Rattle.std.specs.Prelude.{◌≡◌, ◌+◌, ◌^◌, ◌<◌, ◌≤◌, drop, length, slice_get, vec_capacity};
-ghost use Rattle.std.specs.Option.{option_map_or};
+ghost use Rattle.std.specs.Prelude.{◌≡◌, ◌+◌, ◌^◌, ◌<◌, ◌≤◌, drop, length, vec_capacity};
 ghost use Rattle.f77_structure.specs.Units.{first_executable, listing_of, main_unit};
 ghost use Rattle.f77_io.specs.Line.{text_of};
 ghost use Rattle.f77_meaning.specs.Print.{or_blank};
@@ -12,12 +11,13 @@ use crate::active::{ActiveLoop, is_variable_of_any};
 use crate::assign::{Written, assigned};
 use crate::begin::{Begun, begin};
 use crate::evaluated::Evaluated;
+use crate::listing::listing_of;
 use crate::loops::loop_of_do;
 use crate::print::{Printed, Printing, print_items};
 use crate::reads::room_for;
 use f77_ast::expr::{Expr, Ref};
 use f77_ast::fault::Fault;
-use f77_ast::program::{Loop, Program, Unit};
+use f77_ast::program::{Loop, Program};
 use f77_ast::step::Stepped;
 use f77_ast::stmt::{Item, LoopControl, Stmt};
 use f77_io::input::Input;
@@ -77,7 +77,7 @@ impl Process {
     ghost use Rattle.f77_ast.specs.declared.step.Stepped.TheVariants.{Inner};
     ghost use Rattle.f77_structure.specs.HasMeaning.{expr_has_meaning, ref_has_meaning, item_has_meaning, control_has_meaning, statement_has_meaning};
     ghost use Rattle.f77_structure.specs.Storage.{IsStorage};
-    ghost use Rattle.f77_structure.specs.Units.{source_line, statement_number};
+    ghost use Rattle.f77_structure.specs.Units.{listing_of, source_line, statement_number};
     ghost use Rattle.f77_io.specs.Input.{left_of};
     ghost use Rattle.f77_io.specs.Line.{text_of};
     ghost use Rattle.f77_meaning.specs.Assign.{written_of};
@@ -194,7 +194,7 @@ impl Process {
         requires fits { Fits program.now.layout (C.values cells.old) }
         requires after { self.old.at + 1 < 2 ^ 64 }
         ensures next { (input text : List ℕ) → outcome_left result self.new (C.values cells.new) (C.reads cells.new) input text
-            ≡ outcome_of_move (increment_move (frame_of self.old) [] text (actives_of self.old.active.items)) self.old (C.values cells.old) (C.reads cells.old) input text }
+            ≡ outcome_of_move (increment_move program.now (frame_of self.old) [] text (actives_of self.old.active.items)) self.old (C.values cells.old) (C.reads cells.old) input text }
         ensures fits { Fits program.now.layout (C.values cells.new) }
         ensures same_test { C.may_get cells.new ≡ C.may_get cells.old }
         ensures place { KeepsPlace program.now self.old self.new }
@@ -222,7 +222,7 @@ impl Process {
         line: &mut Line,
     ) -> Stepped
         requires sound { IsSound program.now }
-        requires meaning { IsTrue (statement_has_meaning program.now.layout self.old.unit stmt.now) }
+        requires meaning { IsTrue (statement_has_meaning program.now.units program.now.layout self.old.unit stmt.now) }
         requires room { statement_reads program.now.layout self.old.unit stmt.now ≤ self.old.room }
         requires fits { Fits program.now.layout (C.values cells.old) }
         requires allowed { (address : ℕ) → IsTrue (C.may_get cells.old address) }
@@ -230,7 +230,7 @@ impl Process {
         requires few { statement_number program.now.units self.old.unit self.old.at + 1 < 2 ^ 32 }
         requires depth { HasLoopRoom stmt.now self.old }
         ensures next { (input : List ℕ) → outcome_left result self.new (C.values cells.new) (C.reads cells.new) input (text_of line.new)
-            ≡ outcome_of_move (statement_move (frame_of self.old) [] (text_of line.old) program.now stmt.now) self.old (C.values cells.old) (C.reads cells.old) input (text_of line.old) }
+            ≡ outcome_of_move (statement_move program.now (frame_of self.old) [] (text_of line.old) stmt.now) self.old (C.values cells.old) (C.reads cells.old) input (text_of line.old) }
         ensures fits { Fits program.now.layout (C.values cells.new) }
         ensures same_test { C.may_get cells.new ≡ C.may_get cells.old }
         ensures place { KeepsPlace program.now self.old self.new }
@@ -271,7 +271,7 @@ impl Process {
     fn pass(&mut self, program: &Program) -> Stepped
         requires after { self.old.at + 1 < 2 ^ 64 }
         ensures stepped { result ≡ Inner }
-        ensures frame { frame_of self.new ≡ past_statement (frame_of self.old) }
+        ensures frame { frame_of self.new ≡ past_statement program.now (frame_of self.old) }
         ensures place { KeepsPlace program.now self.old self.new }
     {
         self.go_past(program, self.at);
@@ -287,14 +287,14 @@ impl Process {
         cells: &mut C,
     ) -> Stepped
         requires storage { IsStorage program.now.layout }
-        requires target { IsTrue (ref_has_meaning program.now.layout self.old.unit target.now) }
-        requires meaning { IsTrue (expr_has_meaning program.now.layout self.old.unit value.now) }
+        requires target { IsTrue (ref_has_meaning program.now.units program.now.layout self.old.unit target.now) }
+        requires meaning { IsTrue (expr_has_meaning program.now.units program.now.layout self.old.unit value.now) }
         requires room { subscript_reads target.now + reads_in value.now ≤ self.old.room }
         requires fits { Fits program.now.layout (C.values cells.old) }
         requires allowed { (address : ℕ) → IsTrue (C.may_get cells.old address) }
         requires after { self.old.at + 1 < 2 ^ 64 }
         ensures next { (input text : List ℕ) → outcome_left result self.new (C.values cells.new) (C.reads cells.new) input text
-            ≡ outcome_of_move (write_move (frame_of self.old) [] text (written_of (setting_in program.now self.old.unit) target.now value.now self.old.answers.items)) self.old (C.values cells.old) (C.reads cells.old) input text }
+            ≡ outcome_of_move (write_move program.now (frame_of self.old) [] text (written_of (setting_in program.now self.old.unit) target.now value.now self.old.answers.items)) self.old (C.values cells.old) (C.reads cells.old) input text }
         ensures fits { Fits program.now.layout (C.values cells.new) }
         ensures same_test { C.may_get cells.new ≡ C.may_get cells.old }
         ensures place { KeepsPlace program.now self.old self.new }
@@ -312,7 +312,7 @@ impl Process {
         requires after { self.old.at + 1 < 2 ^ 64 }
         requires fits { Fits program.now.layout (C.values cells.old) }
         ensures next { (input text : List ℕ) → outcome_left result self.new (C.values cells.new) (C.reads cells.new) input text
-            ≡ outcome_of_move (unless_blocked (is_blocked written.address (frame_of self.old ∷ [])) (writing written.address written.value written.by None (process_with text (past_statement (frame_of self.old) ∷ [])))) self.old (C.values cells.old) (C.reads cells.old) input text }
+            ≡ outcome_of_move (unless_blocked (is_blocked written.address (frame_of self.old ∷ [])) (writing written.address written.value written.by None (process_with text (past_statement program.now (frame_of self.old) ∷ [])))) self.old (C.values cells.old) (C.reads cells.old) input text }
         ensures fits { Fits program.now.layout (C.values cells.new) }
         ensures same_test { C.may_get cells.new ≡ C.may_get cells.old }
         ensures place { KeepsPlace program.now self.old self.new }
@@ -337,14 +337,14 @@ impl Process {
         cells: &mut C,
     ) -> Stepped
         requires sound { IsSound program.now }
-        requires meaning { IsTrue (control_has_meaning program.now.layout self.old.unit control.now) }
+        requires meaning { IsTrue (control_has_meaning program.now.units program.now.layout self.old.unit control.now) }
         requires room { control_reads control.now ≤ self.old.room }
         requires fits { Fits program.now.layout (C.values cells.old) }
         requires allowed { (address : ℕ) → IsTrue (C.may_get cells.old address) }
         requires few { statement_number program.now.units self.old.unit self.old.at + 1 < 2 ^ 32 }
         requires depth { length self.old.active.items < self.old.depth }
         ensures next { (input text : List ℕ) → outcome_left result self.new (C.values cells.new) (C.reads cells.new) input text
-            ≡ outcome_of_move (do_move (frame_of self.old) [] text (loop_of_do program.now self.old.unit self.old.at) (begun_of (setting_in program.now self.old.unit) control.now self.old.answers.items)) self.old (C.values cells.old) (C.reads cells.old) input text }
+            ≡ outcome_of_move (do_move program.now (frame_of self.old) [] text (loop_of_do program.now self.old.unit self.old.at) (begun_of (setting_in program.now self.old.unit) control.now self.old.answers.items)) self.old (C.values cells.old) (C.reads cells.old) input text }
         ensures fits { Fits program.now.layout (C.values cells.new) }
         ensures same_test { C.may_get cells.new ≡ C.may_get cells.old }
         ensures place { KeepsPlace program.now self.old self.new }
@@ -372,7 +372,7 @@ impl Process {
         requires depth { length self.old.active.items < self.old.depth }
         requires fits { Fits program.now.layout (C.values cells.old) }
         ensures next { (input text : List ℕ) → outcome_left result self.new (C.values cells.new) (C.reads cells.new) input text
-            ≡ outcome_of_move (unless_blocked (is_blocked begun.variable (frame_of self.old ∷ [])) (writing begun.variable begun.first None (Some (Began found.ordinal)) (process_with text (past_do (active_from self.old.at found (as_begun begun)) (frame_of self.old) ∷ [])))) self.old (C.values cells.old) (C.reads cells.old) input text }
+            ≡ outcome_of_move (unless_blocked (is_blocked begun.variable (frame_of self.old ∷ [])) (writing begun.variable begun.first None (Some (Began found.ordinal)) (process_with text (past_do program.now (active_from (listing_of program.now.units self.old.unit) self.old.at found (as_begun begun)) (frame_of self.old) ∷ [])))) self.old (C.values cells.old) (C.reads cells.old) input text }
         ensures fits { Fits program.now.layout (C.values cells.new) }
         ensures same_test { C.may_get cells.new ≡ C.may_get cells.old }
         ensures place { KeepsPlace program.now self.old self.new }
@@ -381,7 +381,7 @@ impl Process {
             return Stepped::Faulted(Fault::DoVariableWritten);
         }
         cells.put(begun.variable, begun.first);
-        self.enter(program, ActiveLoop::new(self.at, found, begun));
+        self.enter(program, ActiveLoop::new(listing_of(program.units.as_slice(), self.unit), self.at, found, begun));
         Stepped::Wrote {
             address: begun.variable,
             by: None,
@@ -399,13 +399,13 @@ impl Process {
         line: &mut Line,
     ) -> Stepped
         requires storage { IsStorage program.now.layout }
-        requires meaning { IsTrue (list_all (item_has_meaning program.now.layout self.old.unit) items.now) }
+        requires meaning { IsTrue (list_all (item_has_meaning program.now.units program.now.layout self.old.unit) items.now) }
         requires room { most_reads program.now.layout self.old.unit items.now ≤ self.old.room }
         requires fits { Fits program.now.layout (C.values cells.old) }
         requires allowed { (address : ℕ) → IsTrue (C.may_get cells.old address) }
         requires after { self.old.at + 1 < 2 ^ 64 }
         ensures next { (input : List ℕ) → outcome_left result self.new (C.values cells.new) (C.reads cells.new) input (text_of line.new)
-            ≡ outcome_of_move (print_move (frame_of self.old) [] (text_of line.old) (printed_of (setting_in program.now self.old.unit) items.now (frame_of self.old) (text_of line.old))) self.old (C.values cells.old) (C.reads cells.old) input (text_of line.old) }
+            ≡ outcome_of_move (print_move program.now (frame_of self.old) [] (text_of line.old) (printed_of (setting_in program.now self.old.unit) items.now (frame_of self.old) (text_of line.old))) self.old (C.values cells.old) (C.reads cells.old) input (text_of line.old) }
         ensures fits { Fits program.now.layout (C.values cells.new) }
         ensures same_test { C.may_get cells.new ≡ C.may_get cells.old }
         ensures place { KeepsPlace program.now self.old self.new }
@@ -432,7 +432,7 @@ impl Process {
     /// Where the PRINT of these items comes to, from where the process is; the line is made as far.
     fn printed<'a>(&'a self, program: &Program, items: &Items<Item>, line: &mut Line) -> Printed<'a>
         requires storage { IsStorage program.now.layout }
-        requires meaning { IsTrue (list_all (item_has_meaning program.now.layout self.now.unit) items.now) }
+        requires meaning { IsTrue (list_all (item_has_meaning program.now.units program.now.layout self.now.unit) items.now) }
         ensures value { as_printed (frame_of self.now) result (text_of line.new) ≡ printed_of (setting_in program.now self.now.unit) items.now (frame_of self.now) (text_of line.old) }
         ensures asks { AsksWithin (length program.now.layout.first) (most_reads program.now.layout self.now.unit items.now) self.now.answers.items result }
         ensures begins { BeginsWith (text_of line.new) (text_of line.old) }
@@ -491,21 +491,10 @@ fn main_of(program: &Program) -> u32
 }
 
 /// The place of the first executable statement of a unit.
-#[tactic(auto, using(crate::proofs::Mains::first_found))]
 fn entry_of(program: &Program, unit: u32) -> usize
     ensures { result ≡ first_executable (listing_of program.now.units unit) }
 {
-    first_in(program.units.as_slice(), unit)
-}
-
-/// The place of the first executable statement of a unit, looked for in the units; 0 where there is no such unit.
-fn first_in(units: &[Unit], unit: u32) -> usize
-    ensures { result ≡ option_map_or (λ entered. first_executable entered.listing) (slice_get units.now unit) 0 }
-{
-    match units.get(unit as usize) {
-        None => 0,
-        Some(entered) => first_executable(entered.listing.as_slice()),
-    }
+    first_executable(listing_of(program.units.as_slice(), unit))
 }
 
 /// The items from a place on; none past the last one.

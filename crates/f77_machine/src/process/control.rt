@@ -7,6 +7,7 @@ ghost use Rattle.f77_machine.specs.Process.{frame_of, stage_of, KeepsPlace};
 
 use super::{Process, Stage};
 use crate::active::ActiveLoop;
+use crate::listing::{listing_of, next_in};
 use f77_ast::program::Program;
 use f77_structure::units::source_line;
 
@@ -16,7 +17,7 @@ impl Process {
     pub fn enter(&mut self, program: &Program, new: ActiveLoop)
         requires room { length self.old.active.items < self.old.depth }
         requires after { new.last + 1 < 2 ^ 64 }
-        ensures frame { frame_of self.new ≡ past_do (active_of new) (frame_of self.old) }
+        ensures frame { frame_of self.new ≡ past_do program.now (active_of new) (frame_of self.old) }
         ensures place { KeepsPlace program.now self.old self.new }
     {
         if new.count == 0 {
@@ -33,7 +34,7 @@ impl Process {
         requires room { length self.old.active.items < self.old.depth }
         requires left { innermost.done < innermost.count }
         requires after { self.old.at + 1 < 2 ^ 64 }
-        ensures frame { frame_of self.new ≡ past_increment (active_of innermost ∷ actives_of self.old.active.items) (frame_of self.old) }
+        ensures frame { frame_of self.new ≡ past_increment program.now (active_of innermost ∷ actives_of self.old.active.items) (frame_of self.old) }
         ensures place { KeepsPlace program.now self.old self.new }
     {
         if innermost.done + 1 < innermost.count {
@@ -48,13 +49,14 @@ impl Process {
     /// loop's incrementation processing comes next (section 11.10.6), and else the next statement.
     pub fn go_past(&mut self, program: &Program, at: usize)
         requires after { at + 1 < 2 ^ 64 }
-        ensures frame { frame_of self.new ≡ past at (actives_of self.old.active.items) (frame_of self.old) }
+        ensures frame { frame_of self.new ≡ past program.now at (actives_of self.old.active.items) (frame_of self.old) }
         ensures place { KeepsPlace program.now self.old self.new }
     {
         if self.is_terminal(at) {
             self.come_to(program, at, Stage::Increment);
         } else {
-            self.come_to(program, at + 1, Stage::Statement);
+            let next = next_in(listing_of(program.units.as_slice(), self.unit), at);
+            self.come_to(program, next, Stage::Statement);
         }
     }
 

@@ -13,5 +13,5 @@ pub returns-in-Some-clause-value : goal.returns-in-Some-clause-value
 returns-in-Some-clause-value c =
     let held = accumulation_of (setting_in c.args.program.now c.args.unit) c.args.target.now c.args.value.now in
     let value = demand_of (setting_in c.args.program.now c.args.unit) c.args.value.now in
-    is_accumulated held (as_located c.args.program.now.layout c.in-Gives.place) value c.in-Gives.rest.now (as_valued c.in-Some.first) (written_demand c.accumulated.result) c.in-Some.ensures.value c.accumulated.ensures.value
-    ∙ ap (λ d. and_then d (λ place rest. written_by held place value rest)) c.in-Gives.ensures.value
+    is_accumulated (setting_in c.args.program.now c.args.unit) held (as_located c.args.program.now.layout c.in-Gives.place) value c.in-Gives.rest.now (as_valued c.in-Some.first) (written_demand c.accumulated.result) c.in-Some.ensures.value c.accumulated.ensures.value
+    ∙ ap (λ d. and_then d (λ place rest. written_by (setting_in c.args.program.now c.args.unit) held place value rest)) c.in-Gives.ensures.value

@@ -1,5 +1,4 @@
 use Rattle.std.proofs.Common.{◌∙◌, None, ap}
-use Rattle.f77_structure.specs.Storage.{region_at}
 use Rattle.f77_meaning.specs.Demand.{and_then, located}
 use Rattle.f77_meaning.specs.Do.{begun_with}
 use Rattle.f77_machine.specs.Begun.{as_parameters}
@@ -10,6 +9,6 @@ use Rattle.f77_machine.proofs.begin.begin_by.Goals as goal
 pub returns-in-Gives-clause-value : goal.returns-in-Gives-clause-value
 returns-in-Gives-clause-value c =
     let s = setting_in c.args.program.now c.args.unit in
-    c.begin_at.ensures.value (region_at c.args.program.now.layout.regions c.in-Gives.place.address) c.in-Gives.place.len
-    ∙ ap (λ d. and_then d (λ variable more. begun_with variable.bound (as_parameters c.args.parameters) more)) (c.in-Gives.ensures.value s)
-    ∙ ap (λ o. and_then (located s o None c.args.rest.now) (λ variable more. begun_with variable.bound (as_parameters c.args.parameters) more)) c.in-Some.ensures.found
+    c.begin_at.ensures.value s c.in-Gives.place.len
+    ∙ ap (λ d. and_then d (λ variable more. begun_with s variable.bound (as_parameters c.args.parameters) more)) (c.in-Gives.ensures.value s)
+    ∙ ap (λ o. and_then (located s o None c.args.rest.now) (λ variable more. begun_with s variable.bound (as_parameters c.args.parameters) more)) c.in-Some.ensures.found

@@ -11,7 +11,7 @@ use Rattle.f77_machine.proofs.demand.+demand.Goals as goal
 pub located-demand-requires : goal.located-demand-requires
 unfolding block.the_depth
 located-demand-requires t c =
-    let means = subscript_means (expr_has_meaning c.args.program.now.layout c.args.unit) c.args.entity.now c.subscript-item.result c.in-Some.subscripts c.args.args.now c.in-Some.is
+    let means = subscript_means (expr_has_meaning c.args.program.now.units c.args.program.now.layout c.args.unit) c.args.entity.now c.subscript-item.result c.in-Some.subscripts c.args.args.now c.in-Some.is
     (sym c.as_slice.ensures ∙ only_one c.as_slice.result.now c.subscript-item.result c.in-len1.len_at_least c.in-len1.len_below c.subscript-item.is) c.requires.meaning in
     (first_of (search rules, grind (arith, common_steps)), (c.requires.storage, means))
 
@@ -23,6 +23,6 @@ located-returns-in-len2-up-clause-value t c =
 -- a reference's value is that of what it stands for
 pub demand-returns-in-Gives-clause-value : goal.demand-returns-in-Gives-clause-value
 demand-returns-in-Gives-clause-value t c =
-    c.integer_at.ensures.value c.args.program.now.layout
-    ∙ ap (λ d. and_then d value_at) c.in-Gives.ensures.value
+    c.integer_at.ensures.value (setting_in c.args.program.now c.args.unit)
+    ∙ ap (λ d. and_then d (value_at (setting_in c.args.program.now c.args.unit))) c.in-Gives.ensures.value
     ∙ reference_value (setting_in c.args.program.now c.args.unit) c.args.expr.now c.in-Ref.reference c.args.answers.now c.in-Ref.is

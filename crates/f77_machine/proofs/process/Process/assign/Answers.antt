@@ -11,7 +11,7 @@ returns-in-Wants-clause-next g c = λ input text.
     let p = c.args.self.now in
     let asked = c.in-Wants.ensures.value ∙ ap (written_of (setting_in c.args.program.now p.unit) c.args.target.now c.args.value.now) c.as_slice.ensures.value in
     c.read.ensures.next c.in-Wants._by (process_of p text) input text
-    ∙ ap (λ d. outcome_of_move (write_move (frame_of p) [] text d) p (g.C.Cells.values c.args.cells.now) (g.C.Cells.reads c.args.cells.now) input text) asked
+    ∙ ap (λ d. outcome_of_move (write_move c.args.program.now (frame_of p) [] text d) p (g.C.Cells.values c.args.cells.now) (g.C.Cells.reads c.args.cells.now) input text) asked
 
 pub returns-in-Wants-clause-place : goal.returns-in-Wants-clause-place
 returns-in-Wants-clause-place g c = c.read.ensures.place c.args.program.now

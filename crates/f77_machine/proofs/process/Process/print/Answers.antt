@@ -22,7 +22,7 @@ returns-in-Asks-clause-next g c = λ input.
     let framed : frame_of c.keep.new.self ≡ with_done here.items here.cells here.answers.now (frame_of p) = c.keep.ensures.frame ∙ ap (λ answers. with_done here.items here.cells answers (frame_of p)) c.in-Asks.ensures.asks.kept.same in
     c.read.ensures.next c.in-Asks._by (process_of p old) input text
     ∙ ap (λ frame. outcome_by (reading c.in-Asks.address c.in-Asks._by frame [] text) (process_of p old) (g.C.Cells.values c.args.cells.now) (g.C.Cells.reads c.args.cells.now) input) framed
-    ∙ ap (λ printed. outcome_of_move (print_move (frame_of p) [] old printed) p (g.C.Cells.values c.args.cells.now) (g.C.Cells.reads c.args.cells.now) input old) c.in-Asks.ensures.value
+    ∙ ap (λ printed. outcome_of_move (print_move c.args.program.now (frame_of p) [] old printed) p (g.C.Cells.values c.args.cells.now) (g.C.Cells.reads c.args.cells.now) input old) c.in-Asks.ensures.value
 
 pub returns-in-Asks-clause-place : goal.returns-in-Asks-clause-place
 returns-in-Asks-clause-place g c =

@@ -7,7 +7,7 @@ use Rattle.f77_machine.proofs.process.Process.printed.Goals as goal
 
 pub print_items-requires-clause-meaning : goal.print_items-requires-clause-meaning
 print_items-requires-clause-meaning c =
-    let means = item_has_meaning c.args.program.now.layout c.args.self.now.unit in
+    let means = item_has_meaning c.args.program.now.units c.args.program.now.layout c.args.self.now.unit in
     subst (λ items. IsTrue (list_all means items)) (sym (c.items_from-left.ensures.value ∙ ap (drop c.args.self.now.items) c.as_slice-2.ensures)) (all_left means c.args.self.now.items c.args.items.now c.requires.meaning)
 
 -- no item that is left needs more than all items do
