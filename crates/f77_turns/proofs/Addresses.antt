@@ -16,7 +16,7 @@ use Rattle.f77_meaning.specs.Do.{Begun, active_from, begun_of}
 use Rattle.f77_meaning.specs.Print.{Printed, asks, enters, whole, stops, printed_of}
 use Rattle.f77_meaning.specs.Process.{Frame, Process, is_blocked, listed_of, process_with}
 use Rattle.f77_meaning.specs.Sound.{AreActive, AreFrames, IsOf, IsSound}
-use Rattle.f77_meaning.specs.Step.{Move, writing, do_move, event_of, loop_of_do, move_of, past_do, past_statement, print_move, statement_move, unless_blocked, write_move}
+use Rattle.f77_meaning.specs.Step.{Move, writing, do_move, event_of, listing_in, loop_of_do, move_of, past_do, past_statement, print_move, statement_move, unless_blocked, write_move}
 use Rattle.f77_turns.specs.Addresses.{EventsLieInStorage, LiesBelow}
 use Rattle.f77_turns.specs.Turns.{Turn}
 use Rattle.f77_turns.proofs.Assigned.{WritesIn, written_asks}
@@ -37,27 +37,27 @@ module _ (program : Program) (sound : IsSound program) (frame : Frame) (below : 
   abbrev total : ℕ
   total = length program.layout.first
 
-  write_in : (d : Demand Written) → Asks total (WritesIn (setting_of program frame) sound.storage) d → MovesIn total (write_move frame below line d)
-  write_in (gives w rest) h = unless_in total (is_blocked w.address (frame ∷ below)) (writing w.address w.value w.by None (process_with line (past_statement frame ∷ below))) h
+  write_in : (d : Demand Written) → Asks total (WritesIn (setting_of program frame) sound.storage) d → MovesIn total (write_move program frame below line d)
+  write_in (gives w rest) h = unless_in total (is_blocked w.address (frame ∷ below)) (writing w.address w.value w.by None (process_with line (past_statement program frame ∷ below))) h
   write_in (wants address by) h = h
   write_in (calls unit bindings) h = tt
   write_in (fails fault) h = tt
 
-  do_in : (o : Option Loop) (d : Demand Begun) → Asks total (BeginsIn (setting_of program frame) sound.storage) d → MovesIn total (do_move frame below line o d)
+  do_in : (o : Option Loop) (d : Demand Begun) → Asks total (BeginsIn (setting_of program frame) sound.storage) d → MovesIn total (do_move program frame below line o d)
   do_in None d h = tt
   do_in (Some loop) (gives b rest) h =
-      unless_in total (is_blocked b.variable (frame ∷ below)) (writing b.variable b.first None (Some (Began loop.ordinal)) (process_with line (past_do (active_from frame.at loop b) frame ∷ below))) h
+      unless_in total (is_blocked b.variable (frame ∷ below)) (writing b.variable b.first None (Some (Began loop.ordinal)) (process_with line (past_do program (active_from (listing_in program frame) frame.at loop b) frame ∷ below))) h
   do_in (Some loop) (wants address by) h = h
   do_in (Some loop) (calls unit bindings) h = tt
   do_in (Some loop) (fails fault) h = tt
 
-  print_in : (q : Printed) → PrintsIn (setting_of program frame) sound.storage q → MovesIn total (print_move frame below line q)
+  print_in : (q : Printed) → PrintsIn (setting_of program frame) sound.storage q → MovesIn total (print_move program frame below line q)
   print_in (asks address by q) h = h
   print_in (enters unit bindings q) h = tt
   print_in (whole text) h = tt
   print_in (stops fault) h = tt
 
-  statement_in_storage : (s : Stmt) → IsTrue (statement_has_meaning program.layout frame.unit s) → MovesIn total (statement_move frame below line program s)
+  statement_in_storage : (s : Stmt) → IsTrue (statement_has_meaning program.units program.layout frame.unit s) → MovesIn total (statement_move program frame below line s)
   statement_in_storage (Assign target value) m =
       write_in (written_of (setting_of program frame) target value frame.answers) (written_asks (setting_of program frame) sound.storage target value m frame.answers)
   statement_in_storage (Do terminal control) m =
@@ -72,14 +72,14 @@ module _ (program : Program) (sound : IsSound program) where
   one_of P xs k x all e = subst P (get_or_from_slice_get xs k x x e) (all k x (slice_get_within xs k x e))
 
   -- a statement of a unit has a meaning, and so has that of a frame
-  means : (unit at : ℕ) (listed : Listed) (o : Option ProgramUnit) → slice_get program.units unit ≡ o → option_and_then (λ u. slice_get u.listing at) o ≡ Some listed → IsTrue (statement_has_meaning program.layout unit listed.stmt)
+  means : (unit at : ℕ) (listed : Listed) (o : Option ProgramUnit) → slice_get program.units unit ≡ o → option_and_then (λ u. slice_get u.listing at) o ≡ Some listed → IsTrue (statement_has_meaning program.units program.layout unit listed.stmt)
   means unit at listed None e h = absurd (cc)
-  means unit at listed (Some u) e h = one_of (λ l. IsTrue (statement_has_meaning program.layout unit l.stmt)) u.listing at listed (sound.meaning unit u e) h
+  means unit at listed (Some u) e h = one_of (λ l. IsTrue (statement_has_meaning program.units program.layout unit l.stmt)) u.listing at listed (sound.meaning unit u e) h
 
-  pub statement_means : (frame : Frame) (listed : Listed) → listed_of program frame ≡ Some listed → IsTrue (statement_has_meaning program.layout frame.unit listed.stmt)
+  pub statement_means : (frame : Frame) (listed : Listed) → listed_of program frame ≡ Some listed → IsTrue (statement_has_meaning program.units program.layout frame.unit listed.stmt)
   statement_means frame listed here = means frame.unit frame.at listed (slice_get program.units frame.unit) refl (sym (statement_in program.units frame.unit frame.at) ∙ here)
 
-  stated_in : (p : Process) (s : Stating program p) → MovesIn (length program.layout.first) (statement_move s.frame s.below p.line program s.listed.stmt)
+  stated_in : (p : Process) (s : Stating program p) → MovesIn (length program.layout.first) (statement_move program s.frame s.below p.line s.listed.stmt)
   stated_in p s = statement_in_storage program sound s.frame s.below p.line s.listed.stmt (statement_means s.frame s.listed s.here)
 
   turned_in : (p : Process) → IsOf program p → (t : Turn p) → t.loop.variable < length program.layout.first

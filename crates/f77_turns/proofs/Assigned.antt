@@ -11,13 +11,14 @@ use Rattle.f77_ast.specs.declared.expr.Kind.{Kind}
 use Rattle.f77_ast.specs.declared.expr.Op.{Op}
 use Rattle.f77_ast.specs.declared.expr.Part.{Part}
 use Rattle.f77_ast.specs.declared.expr.Ref.{Ref}
+use Rattle.f77_ast.specs.declared.fault.Fault.TheVariants.{OutsideRegion}
 use Rattle.f77_structure.specs.HasMeaning.{expr_has_meaning, meaning_part, meaning_ref, meaning_step, ref_has_meaning}
 use Rattle.f77_structure.specs.Storage.{IsStorage}
 use Rattle.f77_structure.specs.Values.{is_arithmetic}
-use Rattle.f77_meaning.specs.Assign.{Accumulation, Held, Operation, Written, accumulate, accumulates_by, accumulation_of, chain_by, chain_of, chain_within, exchanged, held_first, held_last, held_next, is_v, joined_by, last_by, last_with, layer_operation, operation_of, operators_at_left, stands_in_product, stands_in_sum, written_by, written_of}
-use Rattle.f77_meaning.specs.Demand.{gives, and_then, Located, Setting, demand_of, location_of, number_demand, number_of, written_at}
+use Rattle.f77_meaning.specs.Assign.{Accumulation, Held, Operation, Written, accumulate, accumulate_at, accumulates_by, accumulation_of, chain_by, chain_of, chain_within, exchanged, held_first, held_last, held_next, is_v, joined_by, last_by, last_with, layer_operation, operation_of, operators_at_left, stands_in_product, stands_in_sum, written_by, written_of}
+use Rattle.f77_meaning.specs.Demand.{fails, gives, and_then, is_outside, Located, Setting, demand_of, location_of, number_demand, number_of, written_at}
 use Rattle.f77_meaning.specs.Process.{Binding, placed, valued, unvalued}
-use Rattle.f77_turns.proofs.Cells.{Any, Asks, BoundIn, InStorage, IsAddress, address_asks, both, then_asks}
+use Rattle.f77_turns.proofs.Cells.{Any, Asks, BoundIn, InStorage, IsAddress, both, place_asks, then_asks}
 use Rattle.f77_turns.proofs.Expressions.{demand_asks, location_asks, number_asks}
 
 module _ (s : Setting) (storage : IsStorage s.program.layout) where
@@ -25,7 +26,7 @@ module _ (s : Setting) (storage : IsStorage s.program.layout) where
   total = length s.program.layout.first
 
   abbrev Means : Expr → Type 0
-  Means e = IsTrue (expr_has_meaning s.program.layout s.unit e)
+  Means e = IsTrue (expr_has_meaning s.program.units s.program.layout s.unit e)
 
   -- the operands of the outermost operator of an expression with a meaning have one
   record OperandsMean (o : Operation) : Type 0 where
@@ -36,22 +37,22 @@ module _ (s : Setting) (storage : IsStorage s.program.layout) where
   IfOperandsMean None = Unit {0}
   IfOperandsMean (Some o) = OperandsMean o
 
-  layer_operands : (z : Expr-F Expr Part Ref) → IsTrue (meaning_step (map-Expr Expr Part Ref Bool (Unit {0}) Bool (expr_has_meaning s.program.layout s.unit) (λ p. tt) (ref_has_meaning s.program.layout s.unit) z)) → IfOperandsMean (layer_operation z)
+  layer_operands : (z : Expr-F Expr Part Ref) → IsTrue (meaning_step (map-Expr Expr Part Ref Bool (Unit {0}) Bool (expr_has_meaning s.program.units s.program.layout s.unit) (λ p. tt) (ref_has_meaning s.program.units s.program.layout s.unit) z)) → IfOperandsMean (layer_operation z)
   layer_operands (layer.Int value) m = tt
   layer_operands (layer.Truth value) m = tt
   layer_operands (layer.Chars text) m = tt
   layer_operands (layer.Ref r) m = tt
   layer_operands (layer.Unary op x) m = tt
   layer_operands (layer.Binary op x y) m =
-      let operands : (expr_has_meaning s.program.layout s.unit x ≡ true) × (expr_has_meaning s.program.layout s.unit y ≡ true) =
-      both (expr_has_meaning s.program.layout s.unit x) (expr_has_meaning s.program.layout s.unit y) (both (is_arithmetic op) (expr_has_meaning s.program.layout s.unit x && expr_has_meaning s.program.layout s.unit y) m).1 in
+      let operands : (expr_has_meaning s.program.units s.program.layout s.unit x ≡ true) × (expr_has_meaning s.program.units s.program.layout s.unit y ≡ true) =
+      both (expr_has_meaning s.program.units s.program.layout s.unit x) (expr_has_meaning s.program.units s.program.layout s.unit y) (both (is_arithmetic op) (expr_has_meaning s.program.units s.program.layout s.unit x && expr_has_meaning s.program.units s.program.layout s.unit y) m).1 in
       record { left = operands.0; right = operands.1 }
   layer_operands (layer.Paren x) m = tt
 
   operands : (e : Expr) → Means e → IfOperandsMean (operation_of e)
   operands e m =
       layer_operands (out-Expr e)
-      (subst IsTrue (fold-roll-Expr Bool (Unit {0}) Bool meaning_step meaning_part (meaning_ref s.program.layout s.unit) (out-Expr e)) (subst Means (sym (roll-out-Expr e)) m))
+      (subst IsTrue (fold-roll-Expr Bool (Unit {0}) Bool meaning_step meaning_part (meaning_ref s.program.units s.program.layout s.unit) (out-Expr e)) (subst Means (sym (roll-out-Expr e)) m))
 
   -- a right side with v held open asks for what lies in storage
   abbrev pub IsHeld : Held → Type 0
@@ -132,17 +133,25 @@ module _ (s : Setting) (storage : IsStorage s.program.layout) where
   last_asks op k (valued held) value h answers = tt
   last_asks op k (unvalued length) value h answers = tt
 
-  either_asks : (value : Expr) → Means value → (a : Option Accumulation) → IfAccumulates a → (place : Located) → InStorage total place → (answers : List ℤ) → Asks total WritesIn (written_by a place (demand_of s value) answers)
+  -- where it is in its region
+  last_at : (op : RedOp) (k : Kind) (bound : Binding) (value : ℤ → ℤ) → BoundIn total k bound → (answers : List ℤ) → Asks total WritesIn (accumulate_at s op bound value answers)
+  last_at op k bound value h answers = by (is_outside s bound)
+    where
+      by : (b : Bool) → Asks total WritesIn (cond b (fails OutsideRegion) (accumulate op bound value answers))
+      by true = tt
+      by false = last_asks op k bound value h answers
+
+  either_asks : (value : Expr) → Means value → (a : Option Accumulation) → IfAccumulates a → (place : Located) → InStorage total place → (answers : List ℤ) → Asks total WritesIn (written_by s a place (demand_of s value) answers)
   either_asks value m None h place in_storage answers =
-      then_asks total Any WritesIn (demand_of s value answers) (λ v rest. and_then (written_at place.bound rest) (λ address more. gives (record { address = address; value = number_of v; by = None }) more)) (demand_asks s storage value m answers)
-      (λ v rest good. then_asks total (IsAddress total) WritesIn (written_at place.bound rest) (λ address more. gives (record { address = address; value = number_of v; by = None }) more) (address_asks total place.kind place.bound in_storage rest)
+      then_asks total Any WritesIn (demand_of s value answers) (λ v rest. and_then (written_at s place.bound rest) (λ address more. gives (record { address = address; value = number_of v; by = None }) more)) (demand_asks s storage value m answers)
+      (λ v rest good. then_asks total (IsAddress total) WritesIn (written_at s place.bound rest) (λ address more. gives (record { address = address; value = number_of v; by = None }) more) (place_asks total s place.kind place.bound in_storage rest)
       (λ address more within. within))
   either_asks value m (Some a) h place in_storage answers =
-      then_asks total Any WritesIn (a.held answers) (λ f rest. accumulate a.op place.bound f rest) (h answers) (λ f rest good. last_asks a.op place.kind place.bound f in_storage rest)
+      then_asks total Any WritesIn (a.held answers) (λ f rest. accumulate_at s a.op place.bound f rest) (h answers) (λ f rest good. last_at a.op place.kind place.bound f in_storage rest)
 
   -- what an assignment reads and writes lies in storage
-  pub written_asks : (target : Ref) (value : Expr) → IsTrue (ref_has_meaning s.program.layout s.unit target && expr_has_meaning s.program.layout s.unit value) → (answers : List ℤ) → Asks total WritesIn (written_of s target value answers)
+  pub written_asks : (target : Ref) (value : Expr) → IsTrue (ref_has_meaning s.program.units s.program.layout s.unit target && expr_has_meaning s.program.units s.program.layout s.unit value) → (answers : List ℤ) → Asks total WritesIn (written_of s target value answers)
   written_asks target value m answers =
-      let tests : (ref_has_meaning s.program.layout s.unit target ≡ true) × (expr_has_meaning s.program.layout s.unit value ≡ true) = both (ref_has_meaning s.program.layout s.unit target) (expr_has_meaning s.program.layout s.unit value) m in
-      then_asks total (InStorage total) WritesIn (location_of s target answers) (λ place rest. written_by (accumulation_of s target value) place (demand_of s value) rest) (location_asks s storage target tests.0 answers)
+      let tests : (ref_has_meaning s.program.units s.program.layout s.unit target ≡ true) × (expr_has_meaning s.program.units s.program.layout s.unit value ≡ true) = both (ref_has_meaning s.program.units s.program.layout s.unit target) (expr_has_meaning s.program.units s.program.layout s.unit value) m in
+      then_asks total (InStorage total) WritesIn (location_of s target answers) (λ place rest. written_by s (accumulation_of s target value) place (demand_of s value) rest) (location_asks s storage target tests.0 answers)
       (λ place rest good. either_asks value tests.1 (accumulation_of s target value) (accumulates target value tests.1) place good rest)

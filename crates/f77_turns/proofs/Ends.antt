@@ -16,8 +16,8 @@ use Rattle.f77_meaning.specs.Event.{ends}
 use Rattle.f77_meaning.specs.Print.{Printed, asks, enters, whole, stops, printed_of}
 use Rattle.f77_meaning.specs.Process.{ActiveLoop, Frame, Process, Stage, at_statement, at_inner, at_entry, at_increment, is_blocked, listed_of, process_with}
 use Rattle.f77_meaning.specs.Sound.{AreFrames, FitsStage, IsSound}
-use Rattle.f77_meaning.specs.Step.{Move, reading, writing, taking, moving, printing, ending, failing, begin_move, do_move, event_of, frames_move, increment_move, is_terminal, listed_move, loop_of_do, past_do, past_statement, print_move, stage_move, statement_move, unless_blocked, write_move}
-use Rattle.f77_turns.specs.Ends.{EndsAt, RunsEndAtEnd}
+use Rattle.f77_meaning.specs.Step.{Move, reading, writing, taking, moving, printing, ending, failing, begin_move, do_move, event_of, frames_move, increment_move, is_terminal, listed_move, listing_in, loop_of_do, past_do, past_statement, print_move, stage_move, statement_move, unless_blocked, write_move}
+use Rattle.f77_turns.specs.Ends.{EndsAt, by_end, RunsEndAtEnd}
 use Rattle.f77_turns.specs.Ordinals.{HasLoop}
 use Rattle.f77_turns.proofs.Addresses.{statement_means}
 use Rattle.f77_turns.proofs.Assigned.{WritesIn, written_asks}
@@ -53,33 +53,33 @@ module _ (program : Program) (sound : IsSound program) (frame : Frame) (below : 
   abbrev total : ℕ
   total = length program.layout.first
 
-  write_goes_on : (d : Demand Written) → Asks total (WritesIn (setting_of program frame) sound.storage) d → GoesOn (write_move frame below line d)
-  write_goes_on (gives w rest) h = unless_goes_on (is_blocked w.address (frame ∷ below)) (writing w.address w.value w.by None (process_with line (past_statement frame ∷ below))) tt
+  write_goes_on : (d : Demand Written) → Asks total (WritesIn (setting_of program frame) sound.storage) d → GoesOn (write_move program frame below line d)
+  write_goes_on (gives w rest) h = unless_goes_on (is_blocked w.address (frame ∷ below)) (writing w.address w.value w.by None (process_with line (past_statement program frame ∷ below))) tt
   write_goes_on (wants address by) h = tt
   write_goes_on (calls unit bindings) h = h
   write_goes_on (fails fault) h = tt
 
-  begin_goes_on : (loop : Loop) (d : Demand Begun) → Asks total (BeginsIn (setting_of program frame) sound.storage) d → GoesOn (begin_move frame below line loop d)
+  begin_goes_on : (loop : Loop) (d : Demand Begun) → Asks total (BeginsIn (setting_of program frame) sound.storage) d → GoesOn (begin_move program frame below line loop d)
   begin_goes_on loop (gives b rest) h =
-      unless_goes_on (is_blocked b.variable (frame ∷ below)) (writing b.variable b.first None (Some (Began loop.ordinal)) (process_with line (past_do (active_from frame.at loop b) frame ∷ below))) tt
+      unless_goes_on (is_blocked b.variable (frame ∷ below)) (writing b.variable b.first None (Some (Began loop.ordinal)) (process_with line (past_do program (active_from (listing_in program frame) frame.at loop b) frame ∷ below))) tt
   begin_goes_on loop (wants address by) h = tt
   begin_goes_on loop (calls unit bindings) h = h
   begin_goes_on loop (fails fault) h = tt
 
-  print_goes_on : (q : Printed) → PrintsIn (setting_of program frame) sound.storage q → GoesOn (print_move frame below line q)
+  print_goes_on : (q : Printed) → PrintsIn (setting_of program frame) sound.storage q → GoesOn (print_move program frame below line q)
   print_goes_on (asks address by q) h = tt
   print_goes_on (enters unit bindings q) h = h
   print_goes_on (whole text) h = tt
   print_goes_on (stops fault) h = tt
 
   -- each DO statement has its loop
-  do_goes_on : (label : ℕ) → IsDo (listing_of program.units frame.unit) frame.at label → (d : Demand Begun) → Asks total (BeginsIn (setting_of program frame) sound.storage) d → GoesOn (do_move frame below line (loop_of_do program frame.unit frame.at) d)
+  do_goes_on : (label : ℕ) → IsDo (listing_of program.units frame.unit) frame.at label → (d : Demand Begun) → Asks total (BeginsIn (setting_of program frame) sound.storage) d → GoesOn (do_move program frame below line (loop_of_do program frame.unit frame.at) d)
   do_goes_on label begins d h =
       let its : HasLoop program frame.unit frame.at label begins = do_statements_have_loops program sound frame.unit frame.at label begins in
-      subst (λ o. GoesOn (do_move frame below line o d)) (sym its.found) (begin_goes_on its.loop d h)
+      subst (λ o. GoesOn (do_move program frame below line o d)) (sym its.found) (begin_goes_on its.loop d h)
 
   -- an executable statement with a meaning goes on, or is END
-  statement_goes_on : (s : Stmt) → ((label : ℕ) → terminal_label s ≡ Some label → IsDo (listing_of program.units frame.unit) frame.at label) → IsTrue (statement_has_meaning program.layout frame.unit s) → IsTrue (is_executable s) → GoesOn (statement_move frame below line program s) ⊎ (s ≡ End)
+  statement_goes_on : (s : Stmt) → ((label : ℕ) → terminal_label s ≡ Some label → IsDo (listing_of program.units frame.unit) frame.at label) → IsTrue (statement_has_meaning program.units program.layout frame.unit s) → IsTrue (is_executable s) → GoesOn (statement_move program frame below line s) ⊎ (s ≡ End)
   statement_goes_on (Assign target value) begins m x =
       inl (write_goes_on (written_of (setting_of program frame) target value frame.answers) (written_asks (setting_of program frame) sound.storage target value m frame.answers))
   statement_goes_on (Do terminal control) begins m x =
@@ -91,29 +91,29 @@ module _ (program : Program) (sound : IsSound program) (frame : Frame) (below : 
   statement_goes_on _ begins m x = absurd (cc)
 
   -- an incrementation processing is one of a loop
-  increment_goes_on : (active : List ActiveLoop) → IsTrue (is_terminal frame.at active) → GoesOn (increment_move frame below line active)
+  increment_goes_on : (active : List ActiveLoop) → IsTrue (is_terminal frame.at active) → GoesOn (increment_move program frame below line active)
   increment_goes_on [] h = absurd (cc)
   increment_goes_on (loop ∷ outer) h = tt
 
 module _ (program : Program) (sound : IsSound program) (p : Process) where
-  frame_ends : (frame : Frame) (below : List Frame) → p.frames ≡ frame ∷ below → FitsStage program frame.stage frame → event_of (stage_move frame below p.line program frame.stage) ≡ ends → EndsAt program p
+  frame_ends : (frame : Frame) (below : List Frame) → p.frames ≡ frame ∷ below → FitsStage program frame.stage frame → event_of (stage_move program frame below p.line frame.stage) ≡ ends → EndsAt program p
   frame_ends frame below frames fits e = staged frame.stage refl fits e
     where
-      stated : frame.stage ≡ at_statement → (listed : Listed) → listed_of program frame ≡ Some listed → event_of (statement_move frame below p.line program listed.stmt) ≡ ends → GoesOn (statement_move frame below p.line program listed.stmt) ⊎ (listed.stmt ≡ End) → EndsAt program p
-      stated st listed here e (inl goes) = absurd (never_ends (statement_move frame below p.line program listed.stmt) goes e)
-      stated st listed here e (inr is) = record { frame = frame; below = below; frames = frames; stage = st; listed = listed; here = here; is_end = is }
+      stated : frame.stage ≡ at_statement → (listed : Listed) → listed_of program frame ≡ Some listed → event_of (statement_move program frame below p.line listed.stmt) ≡ ends → GoesOn (statement_move program frame below p.line listed.stmt) ⊎ (listed.stmt ≡ End) → EndsAt program p
+      stated st listed here e (inl goes) = absurd (never_ends (statement_move program frame below p.line listed.stmt) goes e)
+      stated st listed here e (inr is) = record { frame = frame; below = below; frames = frames; stage = st; listed = listed; here = here; ends_run = by_end is }
 
-      found_ends : frame.stage ≡ at_statement → (found : Option Listed) → listed_of program frame ≡ found → IsTrue (executes found) → event_of (listed_move frame below p.line program found) ≡ ends → EndsAt program p
+      found_ends : frame.stage ≡ at_statement → (found : Option Listed) → listed_of program frame ≡ found → IsTrue (executes found) → event_of (listed_move program frame below p.line found) ≡ ends → EndsAt program p
       found_ends st None here runs e = absurd (cc)
       found_ends st (Some listed) here runs e =
           stated st listed here e
           (statement_goes_on program sound frame below p.line listed.stmt (λ label names. record { listed = listed; stands = here; names = names }) (statement_means program sound frame listed here) runs)
 
-      staged : (stage : Stage) → frame.stage ≡ stage → FitsStage program stage frame → event_of (stage_move frame below p.line program stage) ≡ ends → EndsAt program p
+      staged : (stage : Stage) → frame.stage ≡ stage → FitsStage program stage frame → event_of (stage_move program frame below p.line stage) ≡ ends → EndsAt program p
       staged at_statement st fits e = found_ends st (listed_of program frame) refl fits e
       staged at_inner st fits e = absurd fits
       staged at_entry st fits e = absurd fits
-      staged at_increment st fits e = absurd (never_ends (increment_move frame below p.line frame.active) (increment_goes_on program sound frame below p.line frame.active fits) e)
+      staged at_increment st fits e = absurd (never_ends (increment_move program frame below p.line frame.active) (increment_goes_on program sound frame below p.line frame.active fits) e)
 
   frames_end : (frames : List Frame) → p.frames ≡ frames → IsSome (slice_get frames 0) → AreFrames program frames → event_of (frames_move program frames p.line) ≡ ends → EndsAt program p
   frames_end [] same some are e = absurd (cc)

@@ -1,5 +1,5 @@
 -- The loops of a program, found by their DO statements and by their ordinals.
-use Rattle.std.proofs.Common.{◌≡◌, ℕ, suc, ◌+◌, ◌-◌, ◌==◌, Bool, true, false, cond, List, [], ◌∷◌, All, Some, drop, refl, sym, ap, subst, ◌∙◌, slice_get, eqb-true}
+use Rattle.std.proofs.Common.{◌≡◌, ℕ, suc, ◌+◌, ◌==◌, Bool, true, false, cond, List, [], ◌∷◌, All, Some, drop, refl, sym, ap, subst, ◌∙◌, slice_get, eqb-true}
 use Rattle.std.proofs.lemmas.List.Elements.{All-cons, All-nil}
 use Rattle.f77_ast.proofs.Loops.{loop_at-numbered}
 use Rattle.f77_ast.specs.Loop.{IsNumbered, loop_at}
@@ -38,7 +38,7 @@ module _ (program : Program) (sound : IsSound program) where
   numbered = subst IsNumbered (sym sound.loops) (loops_of-numbered program.units)
 
   -- what is found is the loop of its ordinal
-  its_ordinal : (unit at : ℕ) (loop : Loop) → loop_of_do program unit at ≡ Some loop → loop_at program.loops loop.ordinal ≡ Some loop
+  pub its_ordinal : (unit at : ℕ) (loop : Loop) → loop_of_do program unit at ≡ Some loop → loop_at program.loops loop.ordinal ≡ Some loop
   its_ordinal unit at loop e =
       let i : InList program.loops (statement_number program.units unit at + 1) loop = in_list program.loops (statement_number program.units unit at + 1) loop e in
       ap (loop_at program.loops) (numbered i.place loop i.there) ∙ loop_at-numbered program.loops i.place numbered ∙ i.there
@@ -48,7 +48,7 @@ module _ (program : Program) (sound : IsSound program) where
     its = subst (λ loops. Found loops unit (statement_number program.units unit at) begins.listed.card.line label (drop (at + 1) (listing_of program.units unit))) (sym sound.loops) (found_of program.units unit at label begins)
 
     -- the loop that is found is that of the DO statement
-    is_its : (loop : Loop) → loop_of_do program unit at ≡ Some loop → loop ≡ loop_from unit loop.ordinal (statement_number program.units unit at) begins.listed.card.line label (drop (at + 1) (listing_of program.units unit))
+    pub is_its : (loop : Loop) → loop_of_do program unit at ≡ Some loop → loop ≡ loop_from unit loop.ordinal (statement_number program.units unit at) begins.listed.card.line label (drop (at + 1) (listing_of program.units unit))
     is_its loop e =
         let both : Some (loop_from unit its.ordinal (statement_number program.units unit at) begins.listed.card.line label (drop (at + 1) (listing_of program.units unit))) ≡ Some loop = sym its.found ∙ e in
         let same : loop_from unit its.ordinal (statement_number program.units unit at) begins.listed.card.line label (drop (at + 1) (listing_of program.units unit)) ≡ loop = cc in
@@ -64,7 +64,7 @@ module _ (program : Program) (sound : IsSound program) where
     }
 
   -- an active loop is one of the program
-  pub is_loop_of : (unit low high : ℕ) (loop : ActiveLoop) → IsActive program unit low high loop → IsLoopOf program unit loop
+  abbrev pub is_loop_of : (unit low high : ℕ) (loop : ActiveLoop) → IsActive program unit low high loop → IsLoopOf program unit loop
   is_loop_of unit low high loop a = record {
     at = a.at;
     label = a.label;
@@ -77,7 +77,7 @@ module _ (program : Program) (sound : IsSound program) where
 
   active_are : (unit low high : ℕ) (active : List ActiveLoop) → AreActive program unit low high active → All (IsLoopOf program unit) active
   active_are unit low high [] a = All-nil (IsLoopOf program unit)
-  active_are unit low high (loop ∷ outer) a = All-cons (IsLoopOf program unit) loop outer (is_loop_of unit low high loop a.0) (active_are unit (loop.from - 1) loop.last outer a.1)
+  active_are unit low high (loop ∷ outer) a = All-cons (IsLoopOf program unit) loop outer (is_loop_of unit low high loop a.0) (active_are unit a.0.at loop.last outer a.1)
 
   frames_are : (frames : List Frame) → AreFrames program frames → All (λ frame. All (IsLoopOf program frame.unit) frame.active) frames
   frames_are [] a = All-nil (λ frame. All (IsLoopOf program frame.unit) frame.active)

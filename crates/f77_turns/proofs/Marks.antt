@@ -13,7 +13,7 @@ use Rattle.f77_meaning.specs.Do.{Begun, active_from, begun_of, next_value}
 use Rattle.f77_meaning.specs.Event.{writes}
 use Rattle.f77_meaning.specs.Print.{Printed, asks, enters, whole, stops, printed_of}
 use Rattle.f77_meaning.specs.Process.{Frame, Process, is_blocked, process_with}
-use Rattle.f77_meaning.specs.Step.{Move, writing, ending, do_move, done_by, event, event_of, loop_of_do, move_of, past_do, past_increment, past_statement, print_move, resumed_by, statement_move, unless_blocked, write_move}
+use Rattle.f77_meaning.specs.Step.{Move, writing, ending, do_move, done_by, event, event_of, listing_in, loop_of_do, move_of, past_do, past_increment, past_statement, print_move, resumed_by, statement_move, unless_blocked, write_move}
 use Rattle.f77_turns.specs.Turns.{Turn, Beginning, LeadsTo, BeginningsAreMarked, TurnsAreMarked}
 use Rattle.f77_turns.proofs.Positions.{Position, nowhere, stating, turning, Stating, position, move_of_statement, move_of_turn}
 
@@ -24,18 +24,18 @@ IsUnmarked move = (address : ℕ) (value : ℤ) (by : Option RedOp) (control : C
 ending_unmarked : IsUnmarked ending
 ending_unmarked address value by control e = absurd (cc)
 
-module _ (frame : Frame) (below : List Frame) (line : List ℕ) where
-  write_unmarked : (d : Demand Written) → IsUnmarked (write_move frame below line d)
+module _ (program : Program) (frame : Frame) (below : List Frame) (line : List ℕ) where
+  write_unmarked : (d : Demand Written) → IsUnmarked (write_move program frame below line d)
   write_unmarked (gives w rest) address value by control e = none (is_blocked w.address (frame ∷ below)) e
     where
-      none : (blocked : Bool) → event_of (unless_blocked blocked (writing w.address w.value w.by None (process_with line (past_statement frame ∷ below)))) ≡ writes address value by (Some control) → ⊥
+      none : (blocked : Bool) → event_of (unless_blocked blocked (writing w.address w.value w.by None (process_with line (past_statement program frame ∷ below)))) ≡ writes address value by (Some control) → ⊥
       none true e = absurd (cc)
       none false e = let c : writes w.address w.value w.by None ≡ writes address value by (Some control) = e in let n : None ≡ Some control = cc in absurd (cc)
   write_unmarked (wants a m) address value by control e = absurd (cc)
   write_unmarked (calls unit bindings) address value by control e = absurd (cc)
   write_unmarked (fails fault) address value by control e = absurd (cc)
 
-  print_unmarked : (q : Printed) → IsUnmarked (print_move frame below line q)
+  print_unmarked : (q : Printed) → IsUnmarked (print_move program frame below line q)
   print_unmarked (asks a m q) address value by control e = absurd (cc)
   print_unmarked (enters unit bindings q) address value by control e = absurd (cc)
   print_unmarked (whole text) address value by control e = absurd (cc)
@@ -48,16 +48,16 @@ module _ (program : Program) (p : Process) where
     by_do : (b : Beginning program p) → Began b.loop.ordinal ≡ control → Marked control
 
   -- the move of a DO statement that begins
-  begins : (b : Beginning program p) → move_of program p ≡ writing b.begun.variable b.begun.first None (Some (Began b.loop.ordinal)) (process_with p.line (past_do (active_from b.frame.at b.loop b.begun) b.frame ∷ b.below))
+  begins : (b : Beginning program p) → move_of program p ≡ writing b.begun.variable b.begun.first None (Some (Began b.loop.ordinal)) (process_with p.line (past_do program (active_from (listing_in program b.frame) b.frame.at b.loop b.begun) b.frame ∷ b.below))
   begins b =
-      move_of_statement program p b.frame b.below b.frames b.listed b.stage b.here ∙ ap (statement_move b.frame b.below p.line program) b.is_do
-      ∙ ap (λ o. do_move b.frame b.below p.line o (begun_of (setting_of program b.frame) b.control b.frame.answers)) b.its
-      ∙ ap (do_move b.frame b.below p.line (Some b.loop)) b.known
-      ∙ ap (λ blocked. unless_blocked blocked (writing b.begun.variable b.begun.first None (Some (Began b.loop.ordinal)) (process_with p.line (past_do (active_from b.frame.at b.loop b.begun) b.frame ∷ b.below))))
+      move_of_statement program p b.frame b.below b.frames b.listed b.stage b.here ∙ ap (statement_move program b.frame b.below p.line) b.is_do
+      ∙ ap (λ o. do_move program b.frame b.below p.line o (begun_of (setting_of program b.frame) b.control b.frame.answers)) b.its
+      ∙ ap (do_move program b.frame b.below p.line (Some b.loop)) b.known
+      ∙ ap (λ blocked. unless_blocked blocked (writing b.begun.variable b.begun.first None (Some (Began b.loop.ordinal)) (process_with p.line (past_do program (active_from (listing_in program b.frame) b.frame.at b.loop b.begun) b.frame ∷ b.below))))
       (sym (ap (is_blocked b.begun.variable) b.frames) ∙ b.free)
 
   -- the move of a turn
-  pub turns : (t : Turn p) → move_of program p ≡ writing t.loop.variable (next_value t.loop) None (Some (Turned t.loop.ordinal)) (process_with p.line (past_increment (t.loop ∷ t.outer) t.frame ∷ t.below))
+  pub turns : (t : Turn p) → move_of program p ≡ writing t.loop.variable (next_value t.loop) None (Some (Turned t.loop.ordinal)) (process_with p.line (past_increment program (t.loop ∷ t.outer) t.frame ∷ t.below))
   turns t = move_of_turn program p t.frame t.below t.frames (t.loop ∷ t.outer) t.stage t.active
 
   -- what a write leads to
@@ -69,11 +69,11 @@ module _ (program : Program) (p : Process) where
     unmarked move e none w = absurd (none address value by control (sym (ap event_of e) ∙ w))
 
     begun_marked : (s : Stating program p) (terminal : ℕ) (c : LoopControl) → s.listed.stmt ≡ Do terminal c → (o : Option Loop) → loop_of_do program s.frame.unit s.frame.at ≡ o → (d : Demand Begun) → begun_of (setting_of program s.frame) c s.frame.answers ≡ d →
-        event_of (do_move s.frame s.below p.line o d) ≡ writes address value by (Some control) → Marked control
+        event_of (do_move program s.frame s.below p.line o d) ≡ writes address value by (Some control) → Marked control
     begun_marked s terminal c is None its d known w = absurd (cc)
     begun_marked s terminal c is (Some loop) its (gives b rest) known w = free (is_blocked b.variable (s.frame ∷ s.below)) refl w
       where
-        free : (blocked : Bool) → is_blocked b.variable (s.frame ∷ s.below) ≡ blocked → event_of (unless_blocked blocked (writing b.variable b.first None (Some (Began loop.ordinal)) (process_with p.line (past_do (active_from s.frame.at loop b) s.frame ∷ s.below)))) ≡ writes address value by (Some control) → Marked control
+        free : (blocked : Bool) → is_blocked b.variable (s.frame ∷ s.below) ≡ blocked → event_of (unless_blocked blocked (writing b.variable b.first None (Some (Began loop.ordinal)) (process_with p.line (past_do program (active_from (listing_in program s.frame) s.frame.at loop b) s.frame ∷ s.below)))) ≡ writes address value by (Some control) → Marked control
         free true f w = absurd (cc)
         free false f w =
             let same : writes b.variable b.first None (Some (Began loop.ordinal)) ≡ writes address value by (Some control) = w in
@@ -100,14 +100,14 @@ module _ (program : Program) (p : Process) where
     begun_marked s terminal c is (Some loop) its (calls unit bindings) known w = absurd (cc)
     begun_marked s terminal c is (Some loop) its (fails fault) known w = absurd (cc)
 
-    stated : (s : Stating program p) (stmt : Stmt) → s.listed.stmt ≡ stmt → move_of program p ≡ statement_move s.frame s.below p.line program stmt → event program p ≡ writes address value by (Some control) → Marked control
+    stated : (s : Stating program p) (stmt : Stmt) → s.listed.stmt ≡ stmt → move_of program p ≡ statement_move program s.frame s.below p.line stmt → event program p ≡ writes address value by (Some control) → Marked control
     stated s (Assign target v) is e w =
-        unmarked (statement_move s.frame s.below p.line program (Assign target v)) e (write_unmarked s.frame s.below p.line (written_of (setting_of program s.frame) target v s.frame.answers)) w
+        unmarked (statement_move program s.frame s.below p.line (Assign target v)) e (write_unmarked program s.frame s.below p.line (written_of (setting_of program s.frame) target v s.frame.answers)) w
     stated s (Do terminal c) is e w =
         begun_marked s terminal c is (loop_of_do program s.frame.unit s.frame.at) refl (begun_of (setting_of program s.frame) c s.frame.answers) refl (sym (ap event_of e) ∙ w)
     stated s Continue is e w = let c = sym (ap event_of e) ∙ w in absurd (cc)
     stated s (Print items) is e w =
-        unmarked (statement_move s.frame s.below p.line program (Print items)) e (print_unmarked s.frame s.below p.line (printed_of (setting_of program s.frame) items s.frame p.line)) w
+        unmarked (statement_move program s.frame s.below p.line (Print items)) e (print_unmarked program s.frame s.below p.line (printed_of (setting_of program s.frame) items s.frame p.line)) w
     stated s _ is e w = unmarked ending e ending_unmarked w
 
     marked_at : Position program p → event program p ≡ writes address value by (Some control) → Marked control
@@ -134,6 +134,6 @@ turns_marked program p = record {
 pub beginnings_marked : BeginningsAreMarked
 beginnings_marked program p = record {
   marked = λ b. ap event_of (begins program p b);
-  leads = λ b. leads program p b.begun.variable b.begun.first None (Some (Began b.loop.ordinal)) (past_do (active_from b.frame.at b.loop b.begun) b.frame ∷ b.below) (begins program p b);
+  leads = λ b. leads program p b.begun.variable b.begun.first None (Some (Began b.loop.ordinal)) (past_do program (active_from (listing_in program b.frame) b.frame.at b.loop b.begun) b.frame ∷ b.below) (begins program p b);
   begins = λ address value by ordinal w. beginning_of program p ordinal (marked_at program p address value by (Began ordinal) (position program p) w);
 }

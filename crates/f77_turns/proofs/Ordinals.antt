@@ -1,5 +1,5 @@
 -- The active loops of a process have different ordinals.
-use Rattle.std.proofs.Common.{◌≡◌, ◌≢◌, ℕ, zero, suc, ◌+◌, ◌-◌, ◌<◌, Bool, true, false, List, [], ◌∷◌, ◌++◌, All, length, map, Some, refl, sym, ap, ◌∙◌, arith}
+use Rattle.std.proofs.Common.{◌≡◌, ◌≢◌, ℕ, zero, suc, ◌+◌, ◌<◌, ◌≤◌, Bool, true, false, List, [], ◌∷◌, ◌++◌, All, length, map, Some, refl, sym, ap, ◌∙◌, arith}
 use Rattle.std.proofs.lemmas.List.Elements.{All-append, All-cons, All-nil}
 use Rattle.std.proofs.lemmas.Option.{slice_get_within}
 use Rattle.std.specs.Prelude.{nat_lt}
@@ -9,7 +9,7 @@ use Rattle.f77_ast.specs.declared.program.Unit.{Unit as ProgramUnit}
 use Rattle.f77_structure.specs.Ranges.{IsDo}
 use Rattle.f77_structure.specs.Units.{listing_of, statement_number, statements_before}
 use Rattle.f77_meaning.specs.Process.{ActiveLoop, Frame}
-use Rattle.f77_meaning.specs.Sound.{AreActive, AreFrames, IsSound}
+use Rattle.f77_meaning.specs.Sound.{AreActive, AreFrames, IsBelow, IsSound}
 use Rattle.f77_turns.specs.Ordinals.{ActiveLoopsDiffer, AllDiffer, IsLoopOf, ordinals_of}
 use Rattle.f77_turns.proofs.Loops.{InList, in_list, is_loop_of}
 
@@ -58,14 +58,14 @@ module _ (program : Program) (sound : IsSound program) where
       begins : x.its.loop.from ≡ y.its.loop.from
       begins = ap (λ l. l.from) one
 
-  -- a loop, and those around places before its range
-  outer_differ : (unit low high : ℕ) (loop : ActiveLoop) → IsLoopOf program unit loop → low < loop.from → (outer : List ActiveLoop) → AreActive program unit low high outer → All (λ m. m ≢ loop.ordinal) (map (λ l. l.ordinal) outer)
+  -- a loop, and those around the place of its DO statement, or one before it
+  outer_differ : (unit low high : ℕ) (loop : ActiveLoop) → (x : IsLoopOf program unit loop) → low ≤ x.at → (outer : List ActiveLoop) → AreActive program unit low high outer → All (λ m. m ≢ loop.ordinal) (map (λ l. l.ordinal) outer)
   outer_differ unit low high loop x before [] a = All-nil (λ m. m ≢ loop.ordinal)
   outer_differ unit low high loop x before (first ∷ rest) a =
       let y : IsLoopOf program unit first = is_loop_of program sound unit low high first a.0 in
       All-cons (λ m. m ≢ loop.ordinal) first.ordinal (map (λ l. l.ordinal) rest)
-      (apart unit unit first loop y x (λ same. absurd (omega (arith, same, x.from, y.from, before, a.0.above))))
-      (outer_differ unit (first.from - 1) first.last loop x (omega (arith, before, a.0.above)) rest a.1)
+      (apart unit unit first loop y x (λ same. absurd (omega (arith, same, y.from, before, a.0.above))))
+      (outer_differ unit a.0.at first.last loop x (omega (arith, y.from, before, a.0.above)) rest a.1)
 
   -- the loops of another unit
   others_differ : (unit other low high : ℕ) (loop : ActiveLoop) → IsLoopOf program unit loop → other ≢ unit → (active : List ActiveLoop) → AreActive program other low high active → All (λ m. m ≢ loop.ordinal) (map (λ l. l.ordinal) active)
@@ -74,14 +74,14 @@ module _ (program : Program) (sound : IsSound program) where
       let y : IsLoopOf program other first = is_loop_of program sound other low high first a.0 in
       All-cons (λ m. m ≢ loop.ordinal) first.ordinal (map (λ l. l.ordinal) rest)
       (apart other unit first loop y x (numbers_differ program.units other unit y.at x.at y.label x.label y.begins x.begins differs))
-      (others_differ unit other (first.from - 1) first.last loop x differs rest a.1)
+      (others_differ unit other a.0.at first.last loop x differs rest a.1)
 
   -- the loops of frames of other units
-  below_differ : (unit : ℕ) (loop : ActiveLoop) → IsLoopOf program unit loop → (below : List Frame) → AreFrames program below → All (λ other. other.unit ≢ unit) below → All (λ m. m ≢ loop.ordinal) (ordinals_of below)
+  below_differ : (unit : ℕ) (loop : ActiveLoop) → IsLoopOf program unit loop → (below : List Frame) → AreFrames program below → All (IsBelow program unit) below → All (λ m. m ≢ loop.ordinal) (ordinals_of below)
   below_differ unit loop x [] are others = All-nil (λ m. m ≢ loop.ordinal)
   below_differ unit loop x (frame ∷ below) are others =
       All-append (λ m. m ≢ loop.ordinal) (map (λ l. l.ordinal) frame.active) (ordinals_of below)
-      (others_differ unit frame.unit frame.at frame.at loop x (others 0 frame (omega arith)) frame.active are.0.active)
+      (others_differ unit frame.unit frame.at frame.at loop x (others 0 frame (omega arith)).other frame.active are.0.active)
       (below_differ unit loop x below are.1.1 (λ k d h. others (suc k) d (omega (arith, h))))
 
   -- active loops of a unit, and other ordinals that differ from theirs
@@ -89,8 +89,8 @@ module _ (program : Program) (sound : IsSound program) where
   joined_differ unit low high ns differ others [] a = differ
   joined_differ unit low high ns differ others (loop ∷ outer) a =
       let x : IsLoopOf program unit loop = is_loop_of program sound unit low high loop a.0 in (
-        All-append (λ m. m ≢ loop.ordinal) (map (λ l. l.ordinal) outer) ns (outer_differ unit (loop.from - 1) loop.last loop x (omega (arith, x.from)) outer a.1) (others loop x),
-        joined_differ unit (loop.from - 1) loop.last ns differ others outer a.1,
+        All-append (λ m. m ≢ loop.ordinal) (map (λ l. l.ordinal) outer) ns (outer_differ unit a.0.at loop.last loop x (omega arith) outer a.1) (others loop x),
+        joined_differ unit a.0.at loop.last ns differ others outer a.1,
       )
 
   frames_differ : (frames : List Frame) → AreFrames program frames → AllDiffer (ordinals_of frames)

@@ -18,23 +18,23 @@ pub record Stating (program : Program) (p : Process) : Type 0 where
 -- a process has nothing to do, is at a statement, or increments
 pub data Position (program : Program) (p : Process) : Type 0 where
   nowhere : move_of program p ≡ ending → Position program p
-  stating : (s : Stating program p) → move_of program p ≡ statement_move s.frame s.below p.line program s.listed.stmt → Position program p
-  turning : (t : Turn p) → move_of program p ≡ increment_move t.frame t.below p.line (t.loop ∷ t.outer) → Position program p
+  stating : (s : Stating program p) → move_of program p ≡ statement_move program s.frame s.below p.line s.listed.stmt → Position program p
+  turning : (t : Turn p) → move_of program p ≡ increment_move program t.frame t.below p.line (t.loop ∷ t.outer) → Position program p
 
 module _ (program : Program) (p : Process) (frame : Frame) (below : List Frame) (frames : p.frames ≡ frame ∷ below) where
   -- the last frame's move, at a stage
-  pub move_at : (stage : Stage) → frame.stage ≡ stage → move_of program p ≡ stage_move frame below p.line program stage
-  move_at stage e = ap (λ fs. frames_move program fs p.line) frames ∙ ap (stage_move frame below p.line program) e
+  pub move_at : (stage : Stage) → frame.stage ≡ stage → move_of program p ≡ stage_move program frame below p.line stage
+  move_at stage e = ap (λ fs. frames_move program fs p.line) frames ∙ ap (stage_move program frame below p.line) e
 
   -- the move of a statement, and that of an increment
-  pub move_of_statement : (listed : Listed) → frame.stage ≡ at_statement → listed_of program frame ≡ Some listed → move_of program p ≡ statement_move frame below p.line program listed.stmt
-  move_of_statement listed e here = move_at at_statement e ∙ ap (listed_move frame below p.line program) here
+  pub move_of_statement : (listed : Listed) → frame.stage ≡ at_statement → listed_of program frame ≡ Some listed → move_of program p ≡ statement_move program frame below p.line listed.stmt
+  move_of_statement listed e here = move_at at_statement e ∙ ap (listed_move program frame below p.line) here
 
-  pub move_of_turn : (active : List ActiveLoop) → frame.stage ≡ at_increment → frame.active ≡ active → move_of program p ≡ increment_move frame below p.line active
-  move_of_turn active e is = move_at at_increment e ∙ ap (increment_move frame below p.line) is
+  pub move_of_turn : (active : List ActiveLoop) → frame.stage ≡ at_increment → frame.active ≡ active → move_of program p ≡ increment_move program frame below p.line active
+  move_of_turn active e is = move_at at_increment e ∙ ap (increment_move program frame below p.line) is
 
   listed_position : (found : Option Listed) → frame.stage ≡ at_statement → listed_of program frame ≡ found → Position program p
-  listed_position None e here = nowhere (move_at at_statement e ∙ ap (listed_move frame below p.line program) here)
+  listed_position None e here = nowhere (move_at at_statement e ∙ ap (listed_move program frame below p.line) here)
   listed_position (Some listed) e here =
       stating (record { frame = frame; below = below; listed = listed; frames = frames; stage = e; here = here }) (move_of_statement listed e here)
 

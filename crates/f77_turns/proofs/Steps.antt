@@ -1,5 +1,5 @@
 -- What a step does to the frames, by the statement at which the process is.
-use Rattle.std.proofs.Common.{◌≡◌, ◌≢◌, ℕ, zero, suc, ◌+◌, ◌==◌, ◌<◌, ◌≤◌, ℤ, Bool, true, false, cond, List, ◌∷◌, Option, None, Some, refl, sym, ap, subst, ◌∙◌, arith}
+use Rattle.std.proofs.Common.{◌≡◌, ◌≢◌, ℕ, zero, suc, ◌==◌, ◌<◌, ◌≤◌, ℤ, Bool, true, false, cond, List, ◌∷◌, Option, None, Some, refl, sym, ap, subst, ◌∙◌, arith}
 use Rattle.std.specs.Prelude.{nat_lt}
 use Rattle.hyb_base.specs.declared.ops.RedOp.{RedOp}
 use Rattle.f77_ast.specs.declared.program.Loop.{Loop}
@@ -8,13 +8,14 @@ use Rattle.f77_ast.specs.declared.step.Control.{Control}
 use Rattle.f77_ast.specs.declared.step.Control.TheVariants.{Began}
 use Rattle.f77_ast.specs.declared.stmt.LoopControl.{LoopControl}
 use Rattle.f77_ast.specs.declared.stmt.Stmt.{Stmt, Assign, Continue, Do, Print}
+use Rattle.f77_structure.specs.Units.{next_place}
 use Rattle.f77_meaning.specs.Assign.{Written, written_of}
 use Rattle.f77_meaning.specs.Demand.{Demand, gives, wants, calls, fails, setting_of}
 use Rattle.f77_meaning.specs.Do.{Begun, active_from, begun_of, turned}
 use Rattle.f77_meaning.specs.Event.{reads, writes, takes, prints, ends, faults}
 use Rattle.f77_meaning.specs.Print.{Printed, asks, enters, whole, stops, printed_of}
 use Rattle.f77_meaning.specs.Process.{ActiveLoop, Frame, Process, Stage, at_statement, at_increment, come_to, is_blocked, process_with, with_answer}
-use Rattle.f77_meaning.specs.Step.{Move, reading, writing, taking, moving, printing, ending, failing, do_move, done_by, event, event_of, is_terminal, loop_of_do, move_of, past, past_do, past_increment, past_statement, print_move, resumed_by, statement_move, unless_blocked, write_move}
+use Rattle.f77_meaning.specs.Step.{Move, reading, writing, taking, moving, printing, ending, failing, do_move, done_by, event, event_of, is_terminal, listing_in, loop_of_do, move_of, past, past_do, past_increment, past_statement, print_move, resumed_by, statement_move, unless_blocked, write_move}
 use Rattle.f77_meaning.proofs.Marks.{StaysAt, Unmarked, fresh_frames_write_none, printed_unmarked, stays}
 use Rattle.f77_turns.specs.Frames.{KeepsFrames, LoopsAfter, stay, joins, stays_out, turns, leaves, StepsKeepFrames}
 use Rattle.f77_turns.specs.Kept.{IsAtPrint, statement_at_stage}
@@ -28,12 +29,12 @@ record Placed (active : List ActiveLoop) (frame next : Frame) : Type 0 where
   stage : Stage
   is : next ≡ come_to at stage active frame
 
-past_placed : (at : ℕ) (active : List ActiveLoop) (frame : Frame) → Placed active frame (past at active frame)
-past_placed at active frame = by (is_terminal at active)
+past_placed : (program : Program) (at : ℕ) (active : List ActiveLoop) (frame : Frame) → Placed active frame (past program at active frame)
+past_placed program at active frame = by (is_terminal at active)
   where
-    by : (b : Bool) → Placed active frame (cond b (come_to at at_increment active frame) (come_to (at + 1) at_statement active frame))
+    by : (b : Bool) → Placed active frame (cond b (come_to at at_increment active frame) (come_to (next_place (listing_in program frame) at) at_statement active frame))
     by true = record { at = at; stage = at_increment; is = refl }
-    by false = record { at = at + 1; stage = at_statement; is = refl }
+    by false = record { at = next_place (listing_in program frame) at; stage = at_statement; is = refl }
 
 module _ (program : Program) (p : Process) where
   -- the frames after a step from a last frame, with some below: the last one has come to some place, with loops that a step makes
@@ -63,23 +64,23 @@ module _ (program : Program) (p : Process) where
     unless_steps false move h = h
 
     -- the frame goes on behind its statement
-    further : Comes frame below (past_statement frame ∷ below)
-    further = comes frame below frame.active (past_statement frame) (past_placed frame.at frame.active frame) (stay refl)
+    further : Comes frame below (past_statement program frame ∷ below)
+    further = comes frame below frame.active (past_statement program frame) (past_placed program frame.at frame.active frame) (stay refl)
 
-    write_steps : (d : Demand Written) → Steps frame below (write_move frame below p.line d)
-    write_steps (gives w rest) = unless_steps (is_blocked w.address (frame ∷ below)) (writing w.address w.value w.by None (process_with p.line (past_statement frame ∷ below))) further
+    write_steps : (d : Demand Written) → Steps frame below (write_move program frame below p.line d)
+    write_steps (gives w rest) = unless_steps (is_blocked w.address (frame ∷ below)) (writing w.address w.value w.by None (process_with p.line (past_statement program frame ∷ below))) further
     write_steps (wants address by) = (stays frame, refl)
     write_steps (calls unit bindings) = tt
     write_steps (fails fault) = tt
 
-    print_steps : IsAtPrint program p → (q : Printed) → Unmarked frame q → Steps frame below (print_move frame below p.line q)
+    print_steps : IsAtPrint program p → (q : Printed) → Unmarked frame q → Steps frame below (print_move program frame below p.line q)
     print_steps here (asks address by q) u = (u.1, refl)
     print_steps here (enters unit bindings q) u = tt
     print_steps here (whole text) u = (here, further)
     print_steps here (stops fault) u = tt
 
     -- a loop that begins
-    begun_comes : (b : Beginning program p) → b.frame ≡ frame → Comes frame below (past_do (active_from b.frame.at b.loop b.begun) frame ∷ below)
+    begun_comes : (b : Beginning program p) → b.frame ≡ frame → Comes frame below (past_do program (active_from (listing_in program b.frame) b.frame.at b.loop b.begun) frame ∷ below)
     begun_comes b same = by (b.begun.count == 0) refl
       where
         none : (n : ℕ) → (n == 0) ≡ true → n ≡ 0
@@ -90,15 +91,15 @@ module _ (program : Program) (p : Process) where
         some (suc n) h e = absurd (omega (arith, e))
 
         new : ActiveLoop
-        new = active_from b.frame.at b.loop b.begun
+        new = active_from (listing_in program b.frame) b.frame.at b.loop b.begun
 
-        by : (t : Bool) → (b.begun.count == 0) ≡ t → Comes frame below (cond t (past new.last frame.active frame) (come_to new.from at_statement (new ∷ frame.active) frame) ∷ below)
-        by true h = comes frame below frame.active (past new.last frame.active frame) (past_placed new.last frame.active frame) (stays_out b (none b.begun.count h) refl)
+        by : (t : Bool) → (b.begun.count == 0) ≡ t → Comes frame below (cond t (past program new.last frame.active frame) (come_to new.from at_statement (new ∷ frame.active) frame) ∷ below)
+        by true h = comes frame below frame.active (past program new.last frame.active frame) (past_placed program new.last frame.active frame) (stays_out b (none b.begun.count h) refl)
         by false h =
             comes frame below (new ∷ frame.active) (come_to new.from at_statement (new ∷ frame.active) frame) (record { at = new.from; stage = at_statement; is = refl }) (joins b (some b.begun.count h) refl)
 
   -- a loop that turns
-  turn_comes : (t : Turn p) → Comes t.frame t.below (past_increment (t.loop ∷ t.outer) t.frame ∷ t.below)
+  turn_comes : (t : Turn p) → Comes t.frame t.below (past_increment program (t.loop ∷ t.outer) t.frame ∷ t.below)
   turn_comes t = by (nat_lt (suc t.loop.done) t.loop.count) refl
     where
       less : (a b : ℕ) → nat_lt a b ≡ true → a < b
@@ -107,19 +108,19 @@ module _ (program : Program) (p : Process) where
       not_less : (a b : ℕ) → nat_lt a b ≡ false → b ≤ a
       not_less a b h = grind (arith, h)
 
-      by : (b : Bool) → nat_lt (suc t.loop.done) t.loop.count ≡ b → Comes t.frame t.below (cond b (come_to t.loop.from at_statement (turned t.loop ∷ t.outer) t.frame) (past t.frame.at t.outer t.frame) ∷ t.below)
+      by : (b : Bool) → nat_lt (suc t.loop.done) t.loop.count ≡ b → Comes t.frame t.below (cond b (come_to t.loop.from at_statement (turned t.loop ∷ t.outer) t.frame) (past program t.frame.at t.outer t.frame) ∷ t.below)
       by true h =
           comes t.frame t.below (turned t.loop ∷ t.outer) (come_to t.loop.from at_statement (turned t.loop ∷ t.outer) t.frame) (record { at = t.loop.from; stage = at_statement; is = refl })
           (turns t (less (suc t.loop.done) t.loop.count h) refl)
-      by false h = comes t.frame t.below t.outer (past t.frame.at t.outer t.frame) (past_placed t.frame.at t.outer t.frame) (leaves t (not_less (suc t.loop.done) t.loop.count h) refl)
+      by false h = comes t.frame t.below t.outer (past program t.frame.at t.outer t.frame) (past_placed program t.frame.at t.outer t.frame) (leaves t (not_less (suc t.loop.done) t.loop.count h) refl)
 
   module _ (s : Stating program p) where
-    do_steps : (terminal : ℕ) (control : LoopControl) → s.listed.stmt ≡ Do terminal control → (o : Option Loop) → loop_of_do program s.frame.unit s.frame.at ≡ o → (d : Demand Begun) → begun_of (setting_of program s.frame) control s.frame.answers ≡ d → Steps s.frame s.below (do_move s.frame s.below p.line o d)
+    do_steps : (terminal : ℕ) (control : LoopControl) → s.listed.stmt ≡ Do terminal control → (o : Option Loop) → loop_of_do program s.frame.unit s.frame.at ≡ o → (d : Demand Begun) → begun_of (setting_of program s.frame) control s.frame.answers ≡ d → Steps s.frame s.below (do_move program s.frame s.below p.line o d)
     do_steps terminal control is None its d known = tt
     do_steps terminal control is (Some loop) its (gives b rest) known = free (is_blocked b.variable (s.frame ∷ s.below)) refl
       where
         free : (blocked : Bool) → is_blocked b.variable (s.frame ∷ s.below) ≡ blocked →
-            Steps s.frame s.below (unless_blocked blocked (writing b.variable b.first None (Some (Began loop.ordinal)) (process_with p.line (past_do (active_from s.frame.at loop b) s.frame ∷ s.below))))
+            Steps s.frame s.below (unless_blocked blocked (writing b.variable b.first None (Some (Began loop.ordinal)) (process_with p.line (past_do program (active_from (listing_in program s.frame) s.frame.at loop b) s.frame ∷ s.below))))
         free true f = tt
         free false f =
             begun_comes s.frame s.below
@@ -145,7 +146,7 @@ module _ (program : Program) (p : Process) where
     do_steps terminal control is (Some loop) its (calls unit bindings) known = tt
     do_steps terminal control is (Some loop) its (fails fault) known = tt
 
-    statement_steps : (stmt : Stmt) → s.listed.stmt ≡ stmt → Steps s.frame s.below (statement_move s.frame s.below p.line program stmt)
+    statement_steps : (stmt : Stmt) → s.listed.stmt ≡ stmt → Steps s.frame s.below (statement_move program s.frame s.below p.line stmt)
     statement_steps (Assign target value) is = write_steps s.frame s.below (written_of (setting_of program s.frame) target value s.frame.answers)
     statement_steps (Do terminal control) is = do_steps terminal control is (loop_of_do program s.frame.unit s.frame.at) refl (begun_of (setting_of program s.frame) control s.frame.answers) refl
     statement_steps Continue is = further s.frame s.below

@@ -11,6 +11,7 @@ use Rattle.f77_ast.specs.declared.stmt.Stmt.TheOpen as layer
 use Rattle.f77_ast.specs.declared.stmt.Stmt.TheVariants as stmt
 use Rattle.f77_ast.specs.declared.stmt.Stmt.TheVariants.{rolls-LogicalIf}
 use Rattle.f77_structure.specs.Statements.{held_or}
+use Rattle.f77_structure.specs.Units.{listing_of, next_place}
 use Rattle.f77_meaning.specs.Event.{writes}
 use Rattle.f77_meaning.specs.Process.{ActiveLoop, Frame, at_increment, at_inner, at_statement, come_to, entering, process_with}
 use Rattle.f77_meaning.specs.Step.{event, once_done}
@@ -36,12 +37,12 @@ module _ (program : Program) where
   unfolding a_loop a_frame
   third_begins = refl
 
-  -- all three have ended with this one: the variable is 5 - 3 * 2 = -1, and the next statement is at place 8, after the loop
+  -- all three have ended with this one: the variable is 5 - 3 * 2 = -1, and control goes on after the loop
   third_turn : event program (process_with [] (a_frame (a_loop 4 2 ∷ []) ∷ [])) ≡ writes 9 (negsuc 0) None (Some (Turned 4))
   unfolding a_loop a_frame
   third_turn = refl
 
-  loop_is_over : once_done program (process_with [] (a_frame (a_loop 4 2 ∷ []) ∷ [])) ≡ process_with [] (come_to 8 at_statement [] (a_frame []) ∷ [])
+  loop_is_over : once_done program (process_with [] (a_frame (a_loop 4 2 ∷ []) ∷ [])) ≡ process_with [] (come_to (next_place (listing_of program.units 0) 7) at_statement [] (a_frame []) ∷ [])
   unfolding a_loop a_frame
   loop_is_over = refl
 

@@ -2,13 +2,17 @@
 use Rattle.std.specs.Prelude.{◌≡◌, List, ◌∷◌, Some}
 use Rattle.f77_ast.specs.declared.program.Listed.{Listed}
 use Rattle.f77_ast.specs.declared.program.Program.{Program}
-use Rattle.f77_ast.specs.declared.stmt.Stmt.{End}
+use Rattle.f77_ast.specs.declared.stmt.Stmt.{Stmt, End}
 use Rattle.f77_meaning.specs.Event.{ends}
 use Rattle.f77_meaning.specs.Process.{Frame, Process, at_statement, listed_of}
 use Rattle.f77_meaning.specs.Sound.{IsOf, IsSound}
 use Rattle.f77_meaning.specs.Step.{event}
 
--- the last frame of a process is at an END
+-- a statement that ends the run: END of a unit
+pub data EndsTheRun (s : Stmt) : Type 0 where
+  by_end : s ≡ End → EndsTheRun s
+
+-- the last frame of a process is at such a statement
 pub record EndsAt (program : Program) (p : Process) : Type 0 where
   pub frame : Frame
   pub below : List Frame
@@ -16,7 +20,7 @@ pub record EndsAt (program : Program) (p : Process) : Type 0 where
   pub stage : frame.stage ≡ at_statement
   pub listed : Listed
   pub here : listed_of program frame ≡ Some listed
-  pub is_end : listed.stmt ≡ End
+  pub ends_run : EndsTheRun listed.stmt
 
 -- a process of a program ends the run only there
 abbrev pub RunsEndAtEnd : Type 0

@@ -3,7 +3,7 @@ use Rattle.std.specs.Prelude.{◌≡◌, ◌≢◌, ◌<◌, ◌≤◌, suc, ℤ
 use Rattle.f77_ast.specs.declared.program.Program.{Program}
 use Rattle.f77_meaning.specs.Do.{active_from, turned}
 use Rattle.f77_meaning.specs.Process.{ActiveLoop, Frame, Process}
-use Rattle.f77_meaning.specs.Step.{once_done, resumed}
+use Rattle.f77_meaning.specs.Step.{listing_in, once_done, resumed}
 use Rattle.f77_turns.specs.Turns.{Beginning, Turn}
 
 -- what a step of a process makes of the active loops of its last frame
@@ -11,7 +11,7 @@ pub data LoopsAfter (program : Program) (p : Process) (active next : List Active
   -- they stay
   stay : next ≡ active → LoopsAfter program p active next
   -- a loop begins, and is the innermost one; where it has no iteration, it isn't active
-  joins : (b : Beginning program p) → b.begun.count ≢ 0 → next ≡ active_from b.frame.at b.loop b.begun ∷ active → LoopsAfter program p active next
+  joins : (b : Beginning program p) → b.begun.count ≢ 0 → next ≡ active_from (listing_in program b.frame) b.frame.at b.loop b.begun ∷ active → LoopsAfter program p active next
   stays_out : (b : Beginning program p) → b.begun.count ≡ 0 → next ≡ active → LoopsAfter program p active next
   -- the innermost one turns, and is active with one iteration more ended; after its last one it isn't, and no loop around it turns in this
   -- step

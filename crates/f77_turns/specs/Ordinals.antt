@@ -5,7 +5,7 @@ use Rattle.f77_ast.specs.declared.program.Loop.{Loop}
 use Rattle.f77_ast.specs.declared.program.Program.{Program}
 use Rattle.f77_structure.specs.Loops.{loop_from}
 use Rattle.f77_structure.specs.Ranges.{IsDo, terminal_at}
-use Rattle.f77_structure.specs.Units.{listing_of, statement_number}
+use Rattle.f77_structure.specs.Units.{listing_of, next_place, statement_number}
 use Rattle.f77_meaning.specs.Process.{ActiveLoop, Frame, Process}
 use Rattle.f77_meaning.specs.Sound.{IsOf, IsSound}
 use Rattle.f77_meaning.specs.Step.{loop_of_do}
@@ -22,14 +22,15 @@ pub record HasLoop (program : Program) (unit at label : ℕ) (begins : IsDo (lis
 abbrev pub DoStatementsHaveLoops : Type 0
 DoStatementsHaveLoops = (program : Program) → IsSound program → (unit at label : ℕ) (begins : IsDo (listing_of program.units unit) at label) → HasLoop program unit at label begins
 
--- an active loop of a unit is the loop of a DO statement of the unit: it has its ordinal and its range
+-- an active loop of a unit is the loop of a DO statement of the unit: it has its ordinal and its range, which is run from where control
+-- goes on after the DO statement
 pub record IsLoopOf (program : Program) (unit : ℕ) (active : ActiveLoop) : Type 0 where
   pub at : ℕ
   pub label : ℕ
   pub begins : IsDo (listing_of program.units unit) at label
   pub its : HasLoop program unit at label begins
   pub ordinal : active.ordinal ≡ its.loop.ordinal
-  pub from : active.from ≡ at + 1
+  pub from : active.from ≡ next_place (listing_of program.units unit) at
   pub last : active.last ≡ terminal_at (listing_of program.units unit) at label
 
 -- each active loop of each frame of a process says which loop of the program it is

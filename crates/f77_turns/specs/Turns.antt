@@ -12,7 +12,7 @@ use Rattle.f77_meaning.specs.Do.{Begun, active_from, begun_of, next_value, turne
 use Rattle.f77_meaning.specs.Event.{writes}
 use Rattle.f77_meaning.specs.Process.{ActiveLoop, Frame, Process, Stage, at_increment, at_statement, come_to, is_blocked, listed_of, process_with}
 use Rattle.f77_meaning.specs.Sound.{IsOf, IsSound}
-use Rattle.f77_meaning.specs.Step.{event, loop_of_do, once_done, past_do, past_increment, resumed}
+use Rattle.f77_meaning.specs.Step.{event, listing_in, loop_of_do, once_done, past_do, past_increment, resumed}
 
 -- the last frame of a process is at the incrementation processing of its innermost active loop
 pub record Turn (p : Process) : Type 0 where
@@ -61,7 +61,7 @@ TurnsAreMarked = (program : Program) (p : Process) → MarksTurn program p
 -- and the loop is active after it where it has an iteration; and each write with such a mark is the beginning of a loop with that ordinal
 pub record MarksBeginning (program : Program) (p : Process) : Type 0 where
   pub marked : (b : Beginning program p) → event program p ≡ writes b.begun.variable b.begun.first None (Some (Began b.loop.ordinal))
-  pub leads : (b : Beginning program p) → LeadsTo program p (past_do (active_from b.frame.at b.loop b.begun) b.frame ∷ b.below)
+  pub leads : (b : Beginning program p) → LeadsTo program p (past_do program (active_from (listing_in program b.frame) b.frame.at b.loop b.begun) b.frame ∷ b.below)
   pub begins : (address : ℕ) (value : ℤ) (by : Option RedOp) (ordinal : ℕ) → event program p ≡ writes address value by (Some (Began ordinal)) → (b : Beginning program p) × (b.loop.ordinal ≡ ordinal)
 
 -- the event is marked with a beginning exactly where a loop begins
@@ -76,8 +76,8 @@ pub data IsAfterTurn (frame : Frame) (loop : ActiveLoop) (outer : List ActiveLoo
 
 -- a turn leads to such a frame, and keeps the frames below
 pub record TurnLeads (program : Program) (p : Process) (t : Turn p) : Type 0 where
-  pub leads : LeadsTo program p (past_increment (t.loop ∷ t.outer) t.frame ∷ t.below)
-  pub after : IsAfterTurn t.frame t.loop t.outer (past_increment (t.loop ∷ t.outer) t.frame)
+  pub leads : LeadsTo program p (past_increment program (t.loop ∷ t.outer) t.frame ∷ t.below)
+  pub after : IsAfterTurn t.frame t.loop t.outer (past_increment program (t.loop ∷ t.outer) t.frame)
 
 -- a turn leaves of its frame nothing but unit, bindings, bounds and loops
 abbrev pub TurnsClear : Type 0
@@ -94,9 +94,9 @@ at_iteration done loop outer frame = come_to loop.from at_statement (with_done d
 -- the frames that begin the iterations of a loop differ only in the number of iterations ended
 pub record IterationsBeginAlike : Type 0 where
   -- the frame after the DO statement, where there is an iteration
-  pub first : (loop : ActiveLoop) (frame : Frame) → loop.count ≢ 0 → loop.done ≡ 0 → past_do loop frame ≡ at_iteration 0 loop frame.active frame
+  pub first : (program : Program) (loop : ActiveLoop) (frame : Frame) → loop.count ≢ 0 → loop.done ≡ 0 → past_do program loop frame ≡ at_iteration 0 loop frame.active frame
   -- the frame after a turn, where an iteration is left
-  pub next : (loop : ActiveLoop) (outer : List ActiveLoop) (frame : Frame) → suc loop.done < loop.count → past_increment (loop ∷ outer) frame ≡ at_iteration (suc loop.done) loop outer frame
+  pub next : (program : Program) (loop : ActiveLoop) (outer : List ActiveLoop) (frame : Frame) → suc loop.done < loop.count → past_increment program (loop ∷ outer) frame ≡ at_iteration (suc loop.done) loop outer frame
   -- of two frames with the same unit, bindings and bounds, and of one loop at any two of its iterations, it is the same frame
   pub alike : (program : Program) (done before : ℕ) (loop : ActiveLoop) (outer : List ActiveLoop) (frame other : Frame) → setting_of program frame ≡ setting_of program other →
       at_iteration done loop outer frame ≡ at_iteration done (with_done before loop) outer other
