@@ -1,5 +1,5 @@
 -- The one cell of an INTEGER in storage, which lies in its own region.
-use Rattle.std.proofs.Common.{◌≡◌, ℕ, ℤ, ◌==◌, Bool, true, false, cond, List, [], ◌∷◌, refl, ap, ◌∙◌, arith}
+use Rattle.std.proofs.Common.{◌≡◌, ℕ, ℤ, ◌==◌, not, true, false, cond, List, [], ◌∷◌, refl, ap, ◌∙◌, arith}
 use Rattle.f77_ast.specs.declared.expr.Kind.TheVariants.{Integer}
 use Rattle.f77_ast.specs.declared.fault.Fault.TheVariants.{DoRange, OutsideRegion, ZeroIncrement}
 use Rattle.f77_structure.specs.Storage.{region_at}
@@ -19,7 +19,7 @@ own_region s address = equal (region_at s.program.layout.regions address)
 
 -- so what is placed there isn't outside
 pub inside : (s : Setting) (address length : ℕ) → is_outside s (placed address (region_at s.program.layout.regions address) length) ≡ false
-inside s address length = ap (λ b. cond b false true) (own_region s address)
+inside s address length = ap not (own_region s address)
 
 -- the value at an address
 pub cell_at : (s : Setting) (address length : ℕ) (answers : List ℤ) → value_of_bound s Integer (placed address (region_at s.program.layout.regions address) length) answers ≡ and_then (cell_value address answers) (λ number rest. gives (integer number) rest)

@@ -37,13 +37,13 @@ loops_fit program p text sound is_of =
 -- a step of the incrementation processing
 pub increment_step : (program : Program) (p : Process) (store : List ℤ) (count : ℕ) (input text : List ℕ) → p.stage ≡ Increment → outcome_of_move (increment_move program (frame_of p) [] text (actives_of p.active.items)) p store count input text ≡ outcome_of_step program (process_of p text) store count input
 increment_step program p store count input text h =
-    ap (λ stage. outcome_of_move (stage_move (frame_of p) [] text program (stage_of stage)) p store count input text) (sym h)
+    ap (λ stage. outcome_of_move (stage_move program (frame_of p) [] text (stage_of stage)) p store count input text) (sym h)
 
 -- a step of a statement
-pub statement_step : (program : Program) (p : Process) (listed : Listed) (store : List ℤ) (count : ℕ) (input text : List ℕ) → Some listed ≡ listed_of program (frame_of p) → p.stage ≡ Statement → outcome_of_move (statement_move (frame_of p) [] text program listed.stmt) p store count input text ≡ outcome_of_step program (process_of p text) store count input
+pub statement_step : (program : Program) (p : Process) (listed : Listed) (store : List ℤ) (count : ℕ) (input text : List ℕ) → Some listed ≡ listed_of program (frame_of p) → p.stage ≡ Statement → outcome_of_move (statement_move program (frame_of p) [] text listed.stmt) p store count input text ≡ outcome_of_step program (process_of p text) store count input
 statement_step program p listed store count input text e h =
-    ap (λ found. outcome_of_move (listed_move (frame_of p) [] text program found) p store count input text) e
-    ∙ ap (λ stage. outcome_of_move (stage_move (frame_of p) [] text program (stage_of stage)) p store count input text) (sym h)
+    ap (λ found. outcome_of_move (listed_move program (frame_of p) [] text found) p store count input text) e
+    ∙ ap (λ stage. outcome_of_move (stage_move program (frame_of p) [] text (stage_of stage)) p store count input text) (sym h)
 
 -- at a DO statement there is room for one more
 pub loop_room : (program : Program) (p : Process) (text : List ℕ) (listed : Listed) → IsSound program → IsProcessOf program p text → listed_of program (frame_of p) ≡ Some listed → HasLoopRoom listed.stmt p

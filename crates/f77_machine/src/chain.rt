@@ -1,8 +1,7 @@
 //! The right side of an accumulation to `v`: a chain of operators that begins with `v`, or `e + v` or `e * v`.
-ghost use Rattle.std.specs.Prelude.{◌≡◌, ◌+◌, ◌≤◌, ℕ, suc, List, IsTrue, IfSome, length};
+ghost use Rattle.std.specs.Prelude.{◌≡◌, ◌+◌, ◌≤◌, ℕ, suc, IsTrue, IfSome, length};
 ghost use Rattle.std.specs.Option.{option_map};
-ghost use Rattle.f77_ast.specs.declared.program.Layout.{Layout};
-ghost use Rattle.f77_ast.specs.declared.program.Unit.{Unit as ProgramUnit};
+ghost use Rattle.f77_ast.specs.declared.program.Program.{Program};
 ghost use Rattle.f77_structure.specs.HasMeaning.{expr_has_meaning};
 ghost use Rattle.f77_structure.specs.Storage.{IsStorage};
 ghost use Rattle.f77_meaning.specs.Assign.{stands_in_sum, stands_in_product, exchanged, is_v, joined_by, held_last, chain_of, last_by, accumulation_of, operation_of, operators_at_left};
@@ -134,8 +133,8 @@ fn outermost(expr: &Expr) -> Option<Operation<'_>>
     ensures value { option_map as_operation result ≡ operation_of expr.now }
     ensures operators { IfSome result (λ o. operators_at_left expr.now ≡ suc (operators_at_left o.left.now)) }
     ensures reads { IfSome result (λ o. reads_in expr.now ≡ reads_in o.left.now + reads_in o.right.now) }
-    ensures meaning { (units : List ProgramUnit) (layout : Layout) (unit : ℕ) → IsTrue (expr_has_meaning units layout unit expr.now)
-        → IfSome result (λ o. IsTrue (expr_has_meaning units layout unit o.left.now) × IsTrue (expr_has_meaning units layout unit o.right.now)) }
+    ensures meaning { (program : Program) (unit : ℕ) → IsTrue (expr_has_meaning program.units program.layout unit expr.now)
+        → IfSome result (λ o. IsTrue (expr_has_meaning program.units program.layout unit o.left.now) × IsTrue (expr_has_meaning program.units program.layout unit o.right.now)) }
 {
     match expr {
         Expr::Int(_) => None,

@@ -1,5 +1,6 @@
 //! The statements of a unit, and where control goes on among them.
-ghost use Rattle.std.specs.Prelude.{◌≡◌, ◌+◌, ◌^◌, ◌<◌};
+ghost use Rattle.std.specs.Prelude.{◌≡◌, ◌+◌, ◌^◌, ◌<◌, [], slice_get};
+ghost use Rattle.std.specs.Option.{option_map_or};
 ghost use Rattle.f77_structure.specs.Units.{listing_of, next_place};
 
 use f77_ast::program::{Listed, Unit};
@@ -9,6 +10,13 @@ use f77_structure::units::next_place;
 #[tactic(auto, using(crate::proofs::Mains::listing_found))]
 pub fn listing_of(units: &[Unit], unit: u32) -> &[Listed]
     ensures { result.now ≡ listing_of units.now unit }
+{
+    entered(units, unit)
+}
+
+/// The same, by the unit that is found.
+fn entered(units: &[Unit], unit: u32) -> &[Listed]
+    ensures { result.now ≡ option_map_or (λ entered. entered.listing) (slice_get units.now unit) [] }
 {
     match units.get(unit as usize) {
         None => &[],

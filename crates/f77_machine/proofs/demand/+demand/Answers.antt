@@ -1,10 +1,11 @@
-use Rattle.std.proofs.Common.{◌≤◌, ◌∙◌, length, rules, ap, arith, sym, subst}
+use Rattle.std.proofs.Common.{◌≤◌, ◌∙◌, length, map, rules, ap, arith, sym, subst}
 use Rattle.std.proofs.lemmas.Grind.{common_steps}
+use Rattle.std.specs.Option.{option_map}
 use Rattle.f77_ast.specs.declared.expr.Expr.TheBlock as block
 use Rattle.f77_structure.specs.HasMeaning.{expr_has_meaning}
-use Rattle.f77_meaning.specs.Demand.{and_then, value_at}
+use Rattle.f77_meaning.specs.Demand.{and_then, term_of, value_at}
 use Rattle.f77_machine.specs.Setting.{setting_in}
-use Rattle.f77_machine.proofs.Meanings.{only_one, reference_value, subscript_means, many_subscripts}
+use Rattle.f77_machine.proofs.Meanings.{entity_stored, located_stored, only_one, reference_value, subscript_means, many_subscripts}
 use Rattle.f77_machine.proofs.demand.+demand.Goals as goal
 
 -- the subscript has a meaning
@@ -17,7 +18,8 @@ located-demand-requires t c =
 
 pub located-returns-in-len2-up-clause-value : goal.located-returns-in-len2-up-clause-value
 located-returns-in-len2-up-clause-value t c =
-    sym (many_subscripts (setting_in c.args.program.now c.args.unit) c.args.entity.now c.in-Some.subscripts c.args.args.now c.args.answers.now c.in-Some.is
+    sym (located_stored (setting_in c.args.program.now c.args.unit) c.args.entity.now (option_map (map (term_of (setting_in c.args.program.now c.args.unit))) c.args.args.now) c.args.answers.now (entity_stored c.args.entity.now _ c.requires.meaning)
+    ∙ many_subscripts (setting_in c.args.program.now c.args.unit) c.args.entity.now c.in-Some.subscripts c.args.args.now c.args.answers.now c.in-Some.is
     (subst (λ xs. 2 ≤ length xs) c.as_slice.ensures c.in-len2-up.len_at_least))
 
 -- a reference's value is that of what it stands for
