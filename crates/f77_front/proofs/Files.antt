@@ -8,7 +8,8 @@ use Rattle.f77_ast.specs.declared.refusal.Refusal.{Refusal}
 use Rattle.f77_cards.specs.Cards.{cards_of}
 use Rattle.f77_front.proofs.Listings.{listing_spelled, spelled_listing}
 use Rattle.f77_front.specs.Accepted.{IsAccepted}
-use Rattle.f77_front.specs.Front.{and_then, listing_of, unless_refused, program_with, program_of, units_of, front_of}
+use Rattle.f77_front.specs.Front.{and_then, kept_units, listing_of, unless_refused, program_with, program_of, units_of, front_of}
+use Rattle.f77_front.specs.Names.{names_refusal}
 use Rattle.f77_structure.specs.Loops.{loops_of}
 use Rattle.f77_operands.specs.Limit.{operand_refusal}
 use Rattle.f77_shape.specs.Shape.{shape_of}
@@ -42,13 +43,21 @@ program_made units program e =
 
 pub record AreUnits (statements : List Listed) (units : List ProgramUnit) : Type 0 where
   pub shape : shape_of statements ≡ Ok units
+  pub names : names_refusal units ≡ None
   pub operands : operand_refusal units ≡ None
 
 pub units_made : (statements : List Listed) (units : List ProgramUnit) → units_of statements ≡ Ok units → AreUnits statements units
 units_made statements units e =
-    let m = made (shape_of statements) (λ all. unless_refused (operand_refusal all) all) units e in
-    let u = unless_made (operand_refusal m.made) m.made units m.on in
-    rw (sym u.1) (record { shape = m.is; operands = u.0 })
+    let m = made (shape_of statements) kept_units units e in
+    let k = made (unless_refused (names_refusal m.made) m.made) (λ named. unless_refused (operand_refusal named) named) units m.on in
+    let n = unless_made (names_refusal m.made) m.made k.made k.is in
+    let u = unless_made (operand_refusal k.made) k.made units k.on in
+    let same : m.made ≡ units = n.1 ∙ u.1 in
+    record {
+      shape = m.is ∙ ap Ok same;
+      names = ap names_refusal (sym same) ∙ n.0;
+      operands = ap operand_refusal (sym u.1) ∙ u.0;
+    }
 
 -- the parts of an accepted file
 pub accepted_of : (bytes : List ℕ) (program : Program) → front_of bytes ≡ Ok program → IsAccepted bytes program
@@ -64,6 +73,7 @@ accepted_of bytes program e =
       cut = c.is;
       listed = listing_spelled c.made s.made s.is;
       shape = a.shape;
+      names = a.names;
       operands = a.operands;
       loops = refl;
       layout = p.subset;
@@ -76,7 +86,8 @@ of_accepted bytes program a =
     let same : program_with program.units program.layout ≡ program = ap (λ loops. record { units = program.units; layout = program.layout; loops = loops }) (sym a.loops) in
     ap (λ r. and_then r (λ cards. and_then (listing_of cards) (λ statements. and_then (units_of statements) program_of))) a.cut
     ∙ ap (λ r. and_then r (λ statements. and_then (units_of statements) program_of)) (spelled_listing a.cards a.statements a.listed)
-    ∙ ap (λ r. and_then (and_then r (λ units. unless_refused (operand_refusal units) units)) program_of) a.shape
+    ∙ ap (λ r. and_then (and_then r kept_units) program_of) a.shape
+    ∙ ap (λ o. and_then (and_then (unless_refused o program.units) (λ named. unless_refused (operand_refusal named) named)) program_of) a.names
     ∙ ap (λ o. and_then (unless_refused o program.units) program_of) a.operands
     ∙ ap (λ r. and_then r (λ layout. Ok (program_with program.units layout))) subset
     ∙ ap Ok same

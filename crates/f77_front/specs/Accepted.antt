@@ -10,6 +10,7 @@ use Rattle.f77_operands.specs.Limit.{operand_refusal}
 use Rattle.f77_shape.specs.Shape.{shape_of}
 use Rattle.f77_stmts.specs.Spelling.{SpellsStmt}
 use Rattle.f77_subset.specs.Subset.{subset_of}
+use Rattle.f77_front.specs.Names.{names_refusal}
 
 -- a card's text spells the statement that is listed with it
 pub record IsListed (card : Card) (listed : Listed) : Type 0 where
@@ -17,14 +18,15 @@ pub record IsListed (card : Card) (listed : Listed) : Type 0 where
   pub spelled : SpellsStmt listed.stmt card.text
 
 -- the bytes of a file are a program: they are cut into cards, each card's text spells a statement, the statements have the
--- shape of the program's units, these keep the limit on operands, all of them is built so far, and the layout and the loops
--- are theirs
+-- shape of the program's units, these keep the rules on names and the limit on operands, all of them is built by now, and the
+-- layout and the loops are theirs
 pub record IsAccepted (bytes : List ℕ) (program : Program) : Type 0 where
   pub cards : List Card
   pub statements : List Listed
   pub cut : cards_of bytes ≡ Ok cards
   pub listed : AllZip IsListed cards statements
   pub shape : shape_of statements ≡ Ok program.units
+  pub names : names_refusal program.units ≡ None
   pub operands : operand_refusal program.units ≡ None
   pub loops : program.loops ≡ loops_of program.units
   pub layout : subset_of program.loops program.units ≡ Ok program.layout
