@@ -1,5 +1,5 @@
 -- What a file whose statements are built and keep the rules satisfies.
-use Rattle.std.proofs.Common.{◌≡◌, ℕ, zero, suc, ◌+◌, ◌<◌, ◌≤◌, pos, Bool, true, false, not, ◌&&◌, ◌||◌, nat_le, nat_lt, List, [], ◌∷◌, ◌++◌, length, map, find, take, replicate, All, IsTrue, Option, Some, None, Result, Ok, Err, refl, sym, ap, ◌∙◌, subst, get_or, slice_get, arith, if◌then◌else◌}
+use Rattle.std.proofs.Common.{◌≡◌, ℕ, zero, suc, ◌+◌, ◌<◌, ◌≤◌, pos, Bool, true, false, not, ◌&&◌, ◌||◌, nat_le, nat_lt, List, [], ◌∷◌, ◌++◌, length, map, find, take, replicate, cond, All, IsTrue, Option, Some, None, Result, Ok, Err, refl, sym, ap, ◌∙◌, subst, get_or, slice_get, arith, if◌then◌else◌}
 use Rattle.std.specs.List.{list_all, list_any, repeat}
 use Rattle.std.specs.Option.{is_some, option_map, option_or}
 use Rattle.std.proofs.lemmas.Bool.{and_from, and_parts}
@@ -44,13 +44,13 @@ use Rattle.f77_subset.proofs.Standing.{appearing, appearing_more, declarations_m
 first_region : (at : ℕ) (d : Declarator) (ds : List Declarator) (a : ℕ) → at ≤ a → a < at + storage_units_by d.bounds → region_at (regions_from at (d ∷ ds)) a ≡ 0
 first_region at d ds a low high =
     let inside : lies_in a (record { start = at; len = storage_units_by d.bounds }) ≡ true = grind (arith, low, high) in
-    ap (λ t. if t then 0 else suc (region_at (regions_from (at + storage_units_by d.bounds) ds) a)) inside
+    ap (λ t. cond (not t) (1 + region_at (regions_from (at + storage_units_by d.bounds) ds) a) 0) inside
 
 -- one behind it lies in none of the regions before that of its own name
-later_region : (at : ℕ) (d : Declarator) (ds : List Declarator) (a : ℕ) → at + storage_units_by d.bounds ≤ a → region_at (regions_from at (d ∷ ds)) a ≡ suc (region_at (regions_from (at + storage_units_by d.bounds) ds) a)
+later_region : (at : ℕ) (d : Declarator) (ds : List Declarator) (a : ℕ) → at + storage_units_by d.bounds ≤ a → region_at (regions_from at (d ∷ ds)) a ≡ 1 + region_at (regions_from (at + storage_units_by d.bounds) ds) a
 later_region at d ds a behind =
     let outside : lies_in a (record { start = at; len = storage_units_by d.bounds }) ≡ false = grind (arith, behind) in
-    ap (λ t. if t then 0 else suc (region_at (regions_from (at + storage_units_by d.bounds) ds) a)) outside
+    ap (λ t. cond (not t) (1 + region_at (regions_from (at + storage_units_by d.bounds) ds) a) 0) outside
 
 -- no name begins before the address from which on they stand
 start_from : (at : ℕ) (ds : List Declarator) → All (λ entity. at ≤ start_of entity) (entities_from at ds)
@@ -78,21 +78,21 @@ lie_from total at (d ∷ ds) le =
       within = lies.within;
       together = λ k stored less.
         later_region at d ds (start_of entity + k) (omega arith)
-        ∙ ap (λ n. suc n) (lies.together k stored less)
+        ∙ ap (λ n. 1 + n) (lies.together k stored less)
         ∙ sym (later_region at d ds (start_of entity) low);
     }
 
 -- each address among the units of names lies in a region
 cover_from : (at : ℕ) (ds : List Declarator) (a : ℕ) → at ≤ a → a < at + total_units ds → region_at (regions_from at ds) a < length (regions_from at ds)
 cover_from at [] a low high = absurd (omega (arith, low, high))
-cover_from at (d ∷ ds) a low high = by (nat_lt a (at + storage_units_by d.bounds)) refl
+cover_from at (d ∷ ds) a low high = by (nat_lt a (at + storage_units_by d.bounds)) refl (λ behind. cover_from (at + storage_units_by d.bounds) ds a behind (omega (arith, high)))
   where
-    by : (t : Bool) → nat_lt a (at + storage_units_by d.bounds) ≡ t → region_at (regions_from at (d ∷ ds)) a < length (regions_from at (d ∷ ds))
-    by true e = let first = first_region at d ds a low (grind (arith, e)) in omega (arith, first)
-    by false e =
+    by : (t : Bool) → nat_lt a (at + storage_units_by d.bounds) ≡ t → (at + storage_units_by d.bounds ≤ a → region_at (regions_from (at + storage_units_by d.bounds) ds) a < length (regions_from (at + storage_units_by d.bounds) ds)) → region_at (regions_from at (d ∷ ds)) a < length (regions_from at (d ∷ ds))
+    by true e rest = let first = first_region at d ds a low (grind (arith, e)) in omega (arith, first)
+    by false e rest =
         let behind : at + storage_units_by d.bounds ≤ a = grind (arith, e) in
         let later = later_region at d ds a behind in
-        let there = cover_from (at + storage_units_by d.bounds) ds a behind (omega (arith, high)) in
+        let there = rest behind in
         omega (arith, later, there)
 
 is_storage : (ds : List Declarator) → nat_le (total_units ds) most_storage_units ≡ true → IsStorage (layout_of ds)
