@@ -1,5 +1,5 @@
 -- What every accepted file satisfies.
-use Rattle.std.specs.Prelude.{◌≡◌, ◌≢◌, ◌<◌, ◌≤◌, ℕ, List, Some, Ok, length, All, IsTrue, IsFalse, slice_get}
+use Rattle.std.specs.Prelude.{◌≡◌, ◌≢◌, ◌≤◌, ℕ, List, Some, Ok, length, All, IsTrue, IsFalse, slice_get}
 use Rattle.std.specs.List.{flat_map}
 use Rattle.f77_ast.specs.Limits.{most_statements, most_units}
 use Rattle.f77_ast.specs.declared.program.Listed.{Listed}

@@ -77,9 +77,9 @@ lie_from total at (d ∷ ds) le =
     behind entity low lies = record {
       within = lies.within;
       together = λ k stored less.
-        later_region at d ds (start_of entity + k) (omega arith)
-        ∙ ap (λ n. 1 + n) (lies.together k stored less)
-        ∙ sym (later_region at d ds (start_of entity) low);
+          later_region at d ds (start_of entity + k) (omega arith)
+          ∙ ap (λ n. 1 + n) (lies.together k stored less)
+          ∙ sym (later_region at d ds (start_of entity) low);
     }
 
 -- each address among the units of names lies in a region
