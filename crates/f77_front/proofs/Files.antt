@@ -1,5 +1,6 @@
 -- Which files are accepted.
 use Rattle.std.proofs.Common.{◌≡◌, ℕ, List, Option, None, Some, Result, Ok, Err, refl, sym, ap, ◌∙◌}
+use Rattle.f77_ast.specs.declared.program.Entity.{Entity}
 use Rattle.f77_ast.specs.declared.program.Layout.{Layout}
 use Rattle.f77_ast.specs.declared.program.Listed.{Listed}
 use Rattle.f77_ast.specs.declared.program.Program.{Program}
@@ -9,7 +10,7 @@ use Rattle.f77_cards.specs.Cards.{cards_of}
 use Rattle.f77_front.proofs.Listings.{listing_spelled, spelled_listing}
 use Rattle.f77_front.specs.Accepted.{IsAccepted}
 use Rattle.f77_front.specs.Front.{and_then, kept_units, listing_of, unless_refused, program_with, program_of, units_of, front_of}
-use Rattle.f77_front.specs.Names.{names_refusal}
+use Rattle.f77_names.specs.Resolve.{resolve_of}
 use Rattle.f77_structure.specs.Loops.{loops_of}
 use Rattle.f77_operands.specs.Limit.{operand_refusal}
 use Rattle.f77_shape.specs.Shape.{shape_of}
@@ -43,19 +44,19 @@ program_made units program e =
 
 pub record AreUnits (statements : List Listed) (units : List ProgramUnit) : Type 0 where
   pub shape : shape_of statements ≡ Ok units
-  pub names : names_refusal units ≡ None
+  pub entities : List Entity
+  pub names : resolve_of units ≡ Ok entities
   pub operands : operand_refusal units ≡ None
 
 pub units_made : (statements : List Listed) (units : List ProgramUnit) → units_of statements ≡ Ok units → AreUnits statements units
 units_made statements units e =
     let m = made (shape_of statements) kept_units units e in
-    let k = made (unless_refused (names_refusal m.made) m.made) (λ named. unless_refused (operand_refusal named) named) units m.on in
-    let n = unless_made (names_refusal m.made) m.made k.made k.is in
-    let u = unless_made (operand_refusal k.made) k.made units k.on in
-    let same : m.made ≡ units = n.1 ∙ u.1 in
+    let k = made (resolve_of m.made) (λ entities. unless_refused (operand_refusal m.made) m.made) units m.on in
+    let u = unless_made (operand_refusal m.made) m.made units k.on in
     record {
-      shape = m.is ∙ ap Ok same;
-      names = ap names_refusal (sym same) ∙ n.0;
+      shape = m.is ∙ ap Ok u.1;
+      entities = k.made;
+      names = ap resolve_of (sym u.1) ∙ k.is;
       operands = ap operand_refusal (sym u.1) ∙ u.0;
     }
 
@@ -73,6 +74,7 @@ accepted_of bytes program e =
       cut = c.is;
       listed = listing_spelled c.made s.made s.is;
       shape = a.shape;
+      entities = a.entities;
       names = a.names;
       operands = a.operands;
       loops = refl;
@@ -87,7 +89,7 @@ of_accepted bytes program a =
     ap (λ r. and_then r (λ cards. and_then (listing_of cards) (λ statements. and_then (units_of statements) program_of))) a.cut
     ∙ ap (λ r. and_then r (λ statements. and_then (units_of statements) program_of)) (spelled_listing a.cards a.statements a.listed)
     ∙ ap (λ r. and_then (and_then r kept_units) program_of) a.shape
-    ∙ ap (λ o. and_then (and_then (unless_refused o program.units) (λ named. unless_refused (operand_refusal named) named)) program_of) a.names
+    ∙ ap (λ r. and_then (and_then r (λ entities. unless_refused (operand_refusal program.units) program.units)) program_of) a.names
     ∙ ap (λ o. and_then (unless_refused o program.units) program_of) a.operands
     ∙ ap (λ r. and_then r (λ layout. Ok (program_with program.units layout))) subset
     ∙ ap Ok same

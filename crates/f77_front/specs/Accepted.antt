@@ -2,15 +2,16 @@
 use Rattle.std.specs.List.{AllZip}
 use Rattle.std.specs.Prelude.{◌≡◌, ℕ, List, None, Ok}
 use Rattle.f77_ast.specs.declared.program.Card.{Card}
+use Rattle.f77_ast.specs.declared.program.Entity.{Entity}
 use Rattle.f77_ast.specs.declared.program.Listed.{Listed}
 use Rattle.f77_ast.specs.declared.program.Program.{Program}
 use Rattle.f77_cards.specs.Cards.{cards_of}
 use Rattle.f77_structure.specs.Loops.{loops_of}
+use Rattle.f77_names.specs.Resolve.{resolve_of}
 use Rattle.f77_operands.specs.Limit.{operand_refusal}
 use Rattle.f77_shape.specs.Shape.{shape_of}
 use Rattle.f77_stmts.specs.Spelling.{SpellsStmt}
 use Rattle.f77_subset.specs.Subset.{subset_of}
-use Rattle.f77_front.specs.Names.{names_refusal}
 
 -- a card's text spells the statement that is listed with it
 pub record IsListed (card : Card) (listed : Listed) : Type 0 where
@@ -26,7 +27,8 @@ pub record IsAccepted (bytes : List ℕ) (program : Program) : Type 0 where
   pub cut : cards_of bytes ≡ Ok cards
   pub listed : AllZip IsListed cards statements
   pub shape : shape_of statements ≡ Ok program.units
-  pub names : names_refusal program.units ≡ None
+  pub entities : List Entity
+  pub names : resolve_of program.units ≡ Ok entities
   pub operands : operand_refusal program.units ≡ None
   pub loops : program.loops ≡ loops_of program.units
   pub layout : subset_of program.loops program.units ≡ Ok program.layout

@@ -11,12 +11,12 @@ use Rattle.f77_ast.specs.declared.refusal.Refusal.{Refusal}
 use Rattle.f77_ast.specs.declared.stmt.Stmt.{Stmt}
 use Rattle.f77_cards.specs.Cards.{cards_of}
 use Rattle.f77_structure.specs.Loops.{loops_of}
+use Rattle.f77_names.specs.Resolve.{resolve_of}
 use Rattle.f77_operands.specs.Limit.{operand_refusal}
 use Rattle.f77_shape.specs.Shape.{shape_of}
 use Rattle.f77_stmts.specs.Cause.{rule_of}
 use Rattle.f77_stmts.specs.Statement.{statement_of}
 use Rattle.f77_subset.specs.Subset.{subset_of}
-use Rattle.f77_front.specs.Names.{names_refusal}
 
 -- goes on with what was made, or stays refused
 abbrev pub and_then : {A B : Type 0} → Result A Refusal → (A → Result B Refusal) → Result B Refusal
@@ -51,7 +51,7 @@ program_of units = and_then (subset_of (loops_of units) units) (λ layout. Ok (p
 
 -- some units whose names keep the rules, and within the limit on operands
 abbrev pub kept_units : List ProgramUnit → Result (List ProgramUnit) Refusal
-kept_units units = and_then (unless_refused (names_refusal units) units) (λ named. unless_refused (operand_refusal named) named)
+kept_units units = and_then (resolve_of units) (λ entities. unless_refused (operand_refusal units) units)
 
 -- the units of some statements, whose names keep the rules, within the limit on operands
 abbrev pub units_of : List Listed → Result (List ProgramUnit) Refusal

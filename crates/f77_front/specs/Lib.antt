@@ -1,4 +1,3 @@
 pub mod Front
 pub mod Accepted
-pub mod Names
 pub mod Laws

@@ -6,6 +6,5 @@
 
 pub mod front;
 pub mod laws;
-mod names;
 mod program;
 mod statements;

@@ -4,10 +4,10 @@ ghost use Rattle.f77_ast.specs.declared.refusal.Refusal.{Refusal};
 ghost use Rattle.f77_front.specs.Front.{kept_units, unless_refused, units_of, program_of};
 ghost use Rattle.f77_structure.specs.Units.{statement_count};
 
-use crate::names::names_refusal;
 use f77_ast::program::{Listing, Program, Units};
 use f77_ast::refusal::{FrontError, Refusal};
 use f77_loops::loops::loops;
+use f77_names::resolve::resolve;
 use f77_operands::limit::too_many_operands;
 use f77_shape::shape::shape;
 use f77_subset::subset::subset;
@@ -26,13 +26,13 @@ fn unless_refused(refusal: Option<Refusal>, units: Units) -> Result<Units, Front
 
 /// Some units whose names keep the rules, and within the limit on operands, or the first refusal of that.
 fn kept_units(alloc: Global, units: Units) -> Result<Units, FrontError>
+    requires few_units { length units < 2 ^ 32 }
     ensures accepted { IfOk result (λ kept. kept_units units ≡ Ok kept) }
     ensures refused { (refusal : Refusal) → IsErrOf result (FrontError.Refused refusal) → kept_units units ≡ Err refusal }
 {
-    let names = names_refusal(alloc, units.as_slice())?;
-    let named = unless_refused(names, units)?;
-    let operands = too_many_operands(named.as_slice());
-    unless_refused(operands, named)
+    let _entities = resolve(alloc, units.as_slice())?;
+    let operands = too_many_operands(units.as_slice());
+    unless_refused(operands, units)
 }
 
 /// The units of some statements, whose names keep the rules, within the limit on operands; or the first refusal of their

@@ -1,0 +1,7 @@
+//! Laws of constants: functions with nothing to do.
+ghost use Rattle.f77_constants.specs.Laws.{ValuesAreLeast};
+
+/// A law: the values of the constants of a unit are the least ones with which each constant has what its expression gives.
+pub fn law_of_constants()
+    ensures { ValuesAreLeast }
+{}
