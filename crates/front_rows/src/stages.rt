@@ -5,6 +5,7 @@ ghost use Rattle.f77_structure.specs.Units.{statement_count};
 use f77_ast::program::{Layout, Listed, Listing, Loops, Units};
 use f77_ast::refusal::{FrontError, Refusal};
 use f77_cards::cards::{Cards, cards};
+use f77_kinds::kinds_break::kinds_break;
 use f77_loops::loops::loops;
 use f77_operands::limit::too_many_operands;
 use f77_shape::shape::shape;
@@ -119,6 +120,15 @@ pub fn layout_of(alloc: Global, source: &[u8]) -> Result<Layout, Unmade> {
 pub fn uses_of(alloc: Global, source: &[u8]) -> Result<(), Unmade> {
     let units = units_of(alloc, source)?;
     match names_break(alloc, units.as_slice())? {
+        None => Ok(()),
+        Some(refusal) => Err(Unmade::Refused(refusal)),
+    }
+}
+
+/// The first refusal of a source by the rules on kinds, and on numbers of subscripts and arguments.
+pub fn kinds_of(alloc: Global, source: &[u8]) -> Result<(), Unmade> {
+    let units = units_of(alloc, source)?;
+    match kinds_break(alloc, units.as_slice())? {
         None => Ok(()),
         Some(refusal) => Err(Unmade::Refused(refusal)),
     }

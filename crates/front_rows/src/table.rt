@@ -2,7 +2,9 @@
 
 use crate::case::Case;
 use crate::same::show_same;
-use crate::stages::{Unmade, cards_of, fitting_units_of, layout_of, loops_of, units_of, uses_of};
+use crate::stages::{
+    Unmade, cards_of, fitting_units_of, kinds_of, layout_of, loops_of, units_of, uses_of,
+};
 use crate::texts::{show_expr_of, show_need_of, show_stmt_of};
 use f77_shown::refusals::show_refusal;
 use f77_shown::tables::{show_card, show_layout, show_loop, show_unit};
@@ -32,6 +34,8 @@ pub enum Table {
     Layout,
     /// Whether a source keeps the rules on declarations and uses of names.
     Uses,
+    /// Whether a source keeps the rules on kinds, and on numbers of subscripts and arguments.
+    Kinds,
 }
 
 impl Table {
@@ -47,6 +51,7 @@ impl Table {
             "loops.rows" => Some(Table::Loops),
             "layout.rows" => Some(Table::Layout),
             "uses.rows" => Some(Table::Uses),
+            "kinds.rows" => Some(Table::Kinds),
             _ => None,
         }
     }
@@ -61,7 +66,8 @@ impl Table {
             | Table::Shape
             | Table::Loops
             | Table::Layout
-            | Table::Uses => false,
+            | Table::Uses
+            | Table::Kinds => false,
         }
     }
 
@@ -76,7 +82,8 @@ impl Table {
             | Table::Shape
             | Table::Loops
             | Table::Layout
-            | Table::Uses => show_stmt_of(alloc, text, into)?,
+            | Table::Uses
+            | Table::Kinds => show_stmt_of(alloc, text, into)?,
         }
         into.push(b'\n')
     }
@@ -90,6 +97,7 @@ impl Table {
             Table::Loops => show_loops(alloc, source, into),
             Table::Layout => show_places(alloc, source, into),
             Table::Uses => show_uses(alloc, source, into),
+            Table::Kinds => show_kinds(alloc, source, into),
             Table::Operands | Table::Exprs | Table::Statements => show_fits(alloc, source, into),
         }
     }
@@ -168,6 +176,12 @@ fn show_places(alloc: Global, source: &[u8], into: &mut Bytes) -> Result<(), Unm
 /// Shows that a source keeps the rules on declarations and uses of names.
 fn show_uses(alloc: Global, source: &[u8], into: &mut Bytes) -> Result<(), Unmade> {
     uses_of(alloc, source)?;
+    Ok(into.push_slice(b"kept\n".as_slice())?)
+}
+
+/// Shows that a source keeps the rules on kinds, and on numbers of subscripts and arguments.
+fn show_kinds(alloc: Global, source: &[u8], into: &mut Bytes) -> Result<(), Unmade> {
+    kinds_of(alloc, source)?;
     Ok(into.push_slice(b"kept\n".as_slice())?)
 }
 
