@@ -101,12 +101,7 @@ fn pairs_text(
 }
 
 /// What is asked as a text.
-fn text_of(
-    alloc: Global,
-    graph: &Graph,
-    asked: Asked,
-    values: &[i64],
-) -> Result<String, NoMemory> {
+fn text_of(alloc: Global, graph: &Graph, asked: Asked, values: &[i64]) -> Result<String, NoMemory> {
     match asked {
         Asked::Set(id) => {
             let mut text = String::new(alloc);

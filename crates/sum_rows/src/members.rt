@@ -44,12 +44,7 @@ fn told_of(
 }
 
 /// What is told of each address and a node.
-fn all_told(
-    alloc: Global,
-    graph: &Graph,
-    id: NodeId,
-    values: &[i64],
-) -> Result<Vec<Told>, NoMemory>
+fn all_told(alloc: Global, graph: &Graph, id: NodeId, values: &[i64]) -> Result<Vec<Told>, NoMemory>
     requires { id < length graph.now }
 {
     let mut all = Vec::new(alloc);

@@ -48,12 +48,9 @@ fn take_part(row: &mut Row, mark: Mark, text: Vec<u8>) -> Result<bool, AllocErro
             row.sets.push(text)?;
             Ok(true)
         }
-        Mark::Name
-        | Mark::Schedule
-        | Mark::Failing
-        | Mark::End
-        | Mark::Note
-        | Mark::Ordered => Ok(false),
+        Mark::Name | Mark::Schedule | Mark::Failing | Mark::End | Mark::Note | Mark::Ordered => Ok(
+            false,
+        ),
     }
 }
 

@@ -1,9 +1,9 @@
 //! What the words of a line spell, read from the last word to the first.
 
-use sym_lmad::lmad::Dim;
-use sym_lmad::sym::Sym;
 use dep_eqs::equations::Eqs;
 use std::alloc::Global;
+use sym_lmad::lmad::Dim;
+use sym_lmad::sym::Sym;
 use usr_graph::node::{Cond, NodeId};
 use usr_graph::triple::Triple;
 
