@@ -1,5 +1,5 @@
 -- Nodes put together to the sets of a loop.
-use Rattle.std.proofs.Common.{◌≡◌, ◌↔◌, ℕ, ℤ, List, length, slice_set, Contains, arith}
+use Rattle.std.proofs.Common.{◌↔◌, ℕ, ℤ, List, slice_set, Contains, arith}
 use Rattle.sym_lmad.specs.declared.sym.Sym.{Sym}
 use Rattle.usr_graph.specs.declared.node.Node.{Node}
 use Rattle.usr_graph.specs.declared.node.Node.TheVariants as n

@@ -3,7 +3,7 @@ use Rattle.std.proofs.Common.{◌≡◌, ℕ, ◌*◌, ◌+◌, ◌≤ℤ◌, �
 use Rattle.std.proofs.lemmas.Int.{ints}
 use Rattle.hyb_base.specs.declared.env.Base.TheVariants.{At}
 use Rattle.hyb_base.specs.declared.env.Env.{Env}
-use Rattle.sym_lmad.specs.Bindings.{FitsCells, IsReadable, IsOfNamed, IsOfRegion, IsAddressOf, region_of, start_of, length_of, is_within}
+use Rattle.sym_lmad.specs.Bindings.{IsReadable, IsOfRegion, is_within}
 use Rattle.sum_rows.specs.Bare.{IsBare}
 
 both_true : (a b : Bool) → (a && b) ≡ true → (a ≡ true) × (b ≡ true)

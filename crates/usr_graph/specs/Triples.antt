@@ -1,5 +1,5 @@
 -- The three sets of a triple.
-use Rattle.std.specs.Prelude.{ℕ, ◌<◌, ℤ, List, length}
+use Rattle.std.specs.Prelude.{◌<◌, ℤ, List, length}
 use Rattle.uses.specs.Use.{Use, Tells}
 use Rattle.usr_graph.specs.declared.node.Node.{Node}
 use Rattle.usr_graph.specs.declared.triple.Triple.{Triple}
