@@ -2,6 +2,8 @@
 -- to 12).
 use Rattle.std.specs.Prelude.{Bool, true, false, not, ◌&&◌, ◌||◌, nat_lt, length, Option}
 use Rattle.f77_ast.specs.Limits.{most_dimensions}
+use Rattle.f77_ast.specs.declared.data.DataConstant.TheVariants as constant
+use Rattle.f77_ast.specs.declared.data.DataConstant.{DataConstant}
 use Rattle.f77_ast.specs.declared.data.DataGroup.{DataGroup}
 use Rattle.f77_ast.specs.declared.data.DataValue.{DataValue}
 use Rattle.f77_ast.specs.declared.data.Repeat.TheVariants as repeat
@@ -167,21 +169,31 @@ equivalence_breach unit group = any_of (member_breach unit) group.members
 
 -- a constant of PARAMETER and its value are of one kind (section 8.6)
 abbrev pub constant_breach : Declarations → NamedConstant → Breach
-constant_breach unit constant = value_breach (name_kind unit constant.name) (expr_found unit constant.value)
+constant_breach unit named = value_breach (name_kind unit named.name) (expr_found unit named.value)
 
 abbrev pub rule_breach : Declarations → ImplicitRule → Breach
 rule_breach unit rule = type_breach unit rule.typ
 
--- a repeat in DATA is an INTEGER (section 9.1)
+-- a repeat in DATA is an INTEGER, and no name between its slashes that of an array whose last upper bound is `*`
+-- (sections 5.6 and 9.1)
+abbrev pub is_repeat : Found → Bool
+is_repeat found = not (is_assumed_size found.form) && fits kind.Integer found.kind
+
 abbrev pub repeat_breach : Declarations → Repeat → Breach
 repeat_breach unit (repeat.Digits digits) = no_breach
-repeat_breach unit (repeat.Named name) = clash_if (not (fits kind.Integer (name_kind unit name)))
+repeat_breach unit (repeat.Named name) = clash_if (not (is_repeat (name_found unit name)))
 
-abbrev pub datum_breach : Declarations → DataValue → Breach
-datum_breach unit value = if_there (repeat_breach unit) value.repeat
+abbrev pub data_constant_breach : Declarations → DataConstant → Breach
+data_constant_breach unit (constant.Int number) = no_breach
+data_constant_breach unit (constant.Truth value) = no_breach
+data_constant_breach unit (constant.Chars text) = no_breach
+data_constant_breach unit (constant.Named name) = clash_if (is_assumed_size (name_found unit name).form)
+
+abbrev pub data_value_breach : Declarations → DataValue → Breach
+data_value_breach unit value = either (if_there (repeat_breach unit) value.repeat) (data_constant_breach unit value.constant)
 
 abbrev pub data_breach : Declarations → DataGroup → Breach
-data_breach unit group = either (any_of (member_breach unit) group.targets) (any_of (datum_breach unit) group.values)
+data_breach unit group = either (any_of (member_breach unit) group.targets) (any_of (data_value_breach unit) group.values)
 
 -- ---- statements
 

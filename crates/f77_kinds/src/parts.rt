@@ -6,9 +6,9 @@ ghost use Rattle.f77_uses.specs.Tables.{told_by};
 
 use crate::breach::{Breach, clash_if, either, miscount_if, no_breach};
 use crate::forms::{is_assumed_size, is_whole};
-use crate::found::{Found, expr_found, member_found, operand_breach};
+use crate::found::{Found, expr_found, member_found, name_found, operand_breach};
 use crate::kinds::{fits, kinds_differ};
-use f77_ast::data::{DataGroup, DataValue, Repeat};
+use f77_ast::data::{DataConstant, DataGroup, DataValue, Repeat};
 use f77_ast::expr::{Expr, Kind, Ref};
 use f77_ast::limits::MOST_DIMENSIONS;
 use f77_ast::specification::{
@@ -220,6 +220,13 @@ impl Judged for ImplicitRule {
     }
 }
 
+/// Whether a name may be a repeat: it is INTEGER, and no array whose last upper bound is `*`.
+fn is_repeat(found: Found) -> bool
+    ensures { result ≡ spec.is_repeat found }
+{
+    !is_assumed_size(found.form) && fits(Kind::Integer, found.kind)
+}
+
 impl Judged for Repeat {
     ghost use Rattle.f77_kinds.specs.Statements.{repeat_breach};
 
@@ -229,19 +236,35 @@ impl Judged for Repeat {
     fn breach(&self, tables: &Tables) -> Breach {
         match self {
             Repeat::Digits(_) => no_breach(),
-            Repeat::Named(name) => clash_if(!fits(Kind::Integer, tables.kind_of(name))),
+            Repeat::Named(name) => clash_if(!is_repeat(name_found(tables, name))),
+        }
+    }
+}
+
+impl Judged for DataConstant {
+    ghost use Rattle.f77_kinds.specs.Statements.{data_constant_breach};
+
+    ghost breach_of = { data_constant_breach };
+
+    /// What is broken in a constant of DATA (section 9.1).
+    fn breach(&self, tables: &Tables) -> Breach {
+        match self {
+            DataConstant::Int(_) => no_breach(),
+            DataConstant::Truth(_) => no_breach(),
+            DataConstant::Chars(_) => no_breach(),
+            DataConstant::Named(name) => clash_if(is_assumed_size(name_found(tables, name).form)),
         }
     }
 }
 
 impl Judged for DataValue {
-    ghost use Rattle.f77_kinds.specs.Statements.{datum_breach};
+    ghost use Rattle.f77_kinds.specs.Statements.{data_value_breach};
 
-    ghost breach_of = { datum_breach };
+    ghost breach_of = { data_value_breach };
 
     /// What is broken in a value of DATA (section 9.1).
     fn breach(&self, tables: &Tables) -> Breach {
-        self.repeat.breach(tables)
+        either(self.repeat.breach(tables), self.constant.breach(tables))
     }
 }
 
