@@ -1,7 +1,7 @@
 //! Cases of the front end, read from files and judged: what each source makes is shown, and compared with what is wanted.
 //!
 //! A file's name says what is shown of its cases: `cards.rows`, `exprs.rows`, `trees.rows`, `statements.rows`,
-//! `shape.rows`, `operands.rows`, `loops.rows` and `layout.rows`. A line for each file is printed, and each case that differs. The exit
+//! `shape.rows`, `operands.rows`, `loops.rows`, `layout.rows`, `constants.rows`, `entities.rows`, `names.rows` and `uses.rows`. A line for each file is printed, and each case that differs. The exit
 //! status is 1 where one differs or can't be read.
 #![tactic(auto)]
 
