@@ -1,6 +1,7 @@
 pub mod Ending
 pub mod Growing
 pub mod Least
+pub mod LengthLemmas
 pub mod Mixed
 pub mod NameLemmas
 pub mod NamesOfLemmas

@@ -3,7 +3,7 @@ use Rattle.std.specs.Prelude.{◌≡◌, ℕ, List, Option, Some}
 use Rattle.f77_ast.specs.declared.program.Listed.{Listed}
 use Rattle.f77_leaves.specs.Declarations.{Declarations, declarations_of}
 use Rattle.f77_structure.specs.Values.{Value}
-use Rattle.f77_constants.specs.Constants.{constant_value, values_with}
+use Rattle.f77_constants.specs.Constants.{constant_value, lengths_of, name_length, values_of, values_with}
 
 -- what has a value in one way has it in another
 pub record Extends (values others : List ℕ → Option Value) : Type 0 where
@@ -21,3 +21,7 @@ pub record AreLeast (unit : Declarations) (lengths : List ℕ → Option ℕ) (v
 -- the values of the constants of a unit are these
 abbrev pub ValuesAreLeast : Type 0
 ValuesAreLeast = (listing : List Listed) (lengths : List ℕ → Option ℕ) → AreLeast (declarations_of listing) lengths (values_with listing lengths)
+
+-- the lengths that texts are fitted to are those that the names have by the values themselves
+abbrev pub LengthsAreTheirOwn : Type 0
+LengthsAreTheirOwn = (listing : List Listed) (name : List ℕ) → lengths_of listing name ≡ name_length (declarations_of listing) (values_of listing) name
