@@ -1,0 +1,4 @@
+pub mod Accumulations
+pub mod Exprs
+pub mod Statements
+pub mod Units

@@ -1,0 +1,119 @@
+-- The code of statements.
+use Rattle.std.specs.Prelude.{ℕ, ◌+◌, ◌-◌, ◌==◌, ◌++◌, ℤ, pos, Bool, List, [], ◌∷◌, Option, None, Some, if◌then◌else◌}
+use Rattle.std.specs.List.{flat_map}
+use Rattle.std.specs.Option.{is_some}
+use Rattle.f77_ast.specs.Entity.{number_in}
+use Rattle.f77_ast.specs.declared.code.Instr.{Instr}
+use Rattle.f77_ast.specs.declared.code.Instr.TheVariants.{Lit, Entity, Store, Accumulate, Count, Next, Emit, EmitArray}
+use Rattle.f77_ast.specs.declared.code.Instr.TheVariants as instr
+use Rattle.f77_ast.specs.declared.expr.Expr.{Expr, out-Expr}
+use Rattle.f77_ast.specs.declared.expr.Expr.TheOpen.{Expr-F}
+use Rattle.f77_ast.specs.declared.expr.Expr.TheOpen as layer
+use Rattle.f77_ast.specs.declared.expr.Part.{Part}
+use Rattle.f77_ast.specs.declared.expr.Ref.{Ref}
+use Rattle.f77_ast.specs.declared.program.Layout.{Layout}
+use Rattle.f77_ast.specs.declared.program.Loop.{Loop}
+use Rattle.f77_ast.specs.declared.program.Unit.{Unit as ProgramUnit}
+use Rattle.f77_ast.specs.declared.stmt.Item.{Item}
+use Rattle.f77_ast.specs.declared.stmt.Item as item
+use Rattle.f77_ast.specs.declared.stmt.LoopControl.{LoopControl}
+use Rattle.f77_ast.specs.declared.stmt.Stmt.{Stmt}
+use Rattle.f77_ast.specs.declared.stmt.Stmt as stmt
+use Rattle.f77_structure.specs.Arrays.{array_named}
+use Rattle.f77_structure.specs.Loops.{loop_with_range_from}
+use Rattle.f77_structure.specs.Units.{statement_number}
+use Rattle.f77_code.specs.Accumulations.{Joining, joining_code}
+use Rattle.f77_code.specs.Exprs.{expr_code, ref_code}
+
+-- whether a loop ends at a statement of the file
+abbrev pub ends_at : (number : ℕ) → Loop → Bool
+ends_at number loop = loop.from + (loop.last - loop.from) == number
+
+-- the ends of the iterations of the loops that end at a statement, the last loop first, which is the innermost one
+abbrev pub turn_if : Bool → Loop → List Instr
+turn_if ends loop = if ends then Next loop.ordinal ∷ [] else []
+
+abbrev pub turns_code : List Loop → (number : ℕ) → List Instr
+turns_code [] number = []
+turns_code (loop ∷ loops) number = turns_code loops number ++ turn_if (ends_at number loop) loop
+
+-- the place of an expression that is a reference
+abbrev pub layer_place : Layout → (unit : ℕ) → Expr-F Expr Part Ref → List Instr
+layer_place layout unit (layer.Int number) = []
+layer_place layout unit (layer.Truth holds) = []
+layer_place layout unit (layer.Chars text) = []
+layer_place layout unit (layer.Ref ref) = ref_code layout unit ref
+layer_place layout unit (layer.Unary op operand) = []
+layer_place layout unit (layer.Binary op left right) = []
+layer_place layout unit (layer.Paren inner) = []
+
+module _ (layout : Layout) (unit : ℕ) where
+  -- the value of the right side, and the write; of an accumulation what v is joined with, its read and the write
+  abbrev pub assigned_code : Option Joining → Expr → List Instr
+  assigned_code None value = expr_code layout unit value ++ Store ∷ []
+  assigned_code (Some joining) value = joining.code ++ Accumulate joining.op ∷ []
+
+  -- an assignment: what is assigned to comes first
+  abbrev pub assign_code : Ref → Expr → List Instr
+  assign_code target value = ref_code layout unit target ++ assigned_code (joining_code layout unit target value) value
+
+  -- the increment, 1 where it is left out
+  abbrev pub increment_code : Option Expr → List Instr
+  increment_code None = Lit (pos 1) ∷ []
+  increment_code (Some increment) = expr_code layout unit increment
+
+  -- the three parameters of a DO
+  abbrev pub parameters_code : LoopControl → List Instr
+  parameters_code control = expr_code layout unit control.first ++ expr_code layout unit control.last ++ increment_code control.increment
+
+  -- a DO, by the number of its variable, and its loop; none where one isn't known
+  abbrev pub do_code : LoopControl → Option ℕ → Option Loop → List Instr
+  do_code control None loop = []
+  do_code control (Some number) None = []
+  do_code control (Some number) (Some loop) = Entity number ∷ parameters_code control ++ Count loop.ordinal ∷ []
+
+  -- an item of PRINT: the elements of an array, or a value; an implied DO has no meaning yet
+  abbrev pub item_code : Item → List Instr
+  item_code (item.Plain expr) = if is_some (array_named layout unit expr) then layer_place layout unit (out-Expr expr) ++ EmitArray ∷ [] else expr_code layout unit expr ++ Emit ∷ []
+  item_code (item.Implied' items rest control) = []
+
+  abbrev pub items_code : List Item → List Instr
+  items_code [] = []
+  items_code (first ∷ others) = item_code first ++ items_code others
+
+module _ (units : List ProgramUnit) (loops : List Loop) (layout : Layout) (unit : ℕ) where
+  -- the code of a statement at a place of its unit, but for the ends of iterations. Statements that aren't executable have none, and what has
+  -- no meaning yet has none
+  abbrev pub own_code : (at : ℕ) → Stmt → List Instr
+  own_code at (stmt.Assign target value) = assign_code layout unit target value
+  own_code at (stmt.Do terminal control) = do_code layout unit control (number_in layout.entities unit control.variable) (loop_with_range_from loops (statement_number units unit at + 1))
+  own_code at stmt.Continue = instr.Move ∷ []
+  own_code at stmt.Return = []
+  own_code at stmt.Else = []
+  own_code at stmt.EndIf = []
+  own_code at stmt.End = instr.Stop ∷ []
+  own_code at (stmt.Stop code) = []
+  own_code at (stmt.Goto label) = []
+  own_code at (stmt.ComputedGoto labels index) = []
+  own_code at (stmt.ArithmeticIf value negative zeroth positive) = []
+  own_code at (stmt.LogicalIf' condition pointer inner) = []
+  own_code at (stmt.BlockIf condition) = []
+  own_code at (stmt.ElseIf condition) = []
+  own_code at (stmt.Call name args) = []
+  own_code at (stmt.Print items) = items_code layout unit items ++ instr.Print ∷ []
+  own_code at (stmt.Read items) = []
+  own_code at (stmt.Program name) = []
+  own_code at (stmt.Subroutine name dummies) = []
+  own_code at (stmt.Function typ name dummies) = []
+  own_code at (stmt.Declare typ entities) = []
+  own_code at (stmt.Dimension arrays) = []
+  own_code at (stmt.Common groups) = []
+  own_code at (stmt.Equivalence groups) = []
+  own_code at (stmt.Parameter constants) = []
+  own_code at (stmt.Implicit rules) = []
+  own_code at (stmt.Save entries) = []
+  own_code at (stmt.Init groups) = []
+
+  -- the same, with the ends of iterations
+  abbrev pub statement_code : (at : ℕ) → Stmt → List Instr
+  statement_code at stmt = own_code at stmt ++ turns_code loops (statement_number units unit at)
