@@ -4,7 +4,7 @@ use Rattle.std.specs.Option.{option_map, option_or}
 use Rattle.hyb_base.specs.declared.ops.RedOp.{RedOp}
 use Rattle.hyb_base.specs.declared.ops.RedOp.TheVariants as red
 use Rattle.f77_ast.specs.declared.code.Instr.{Instr}
-use Rattle.f77_ast.specs.declared.code.Instr.TheVariants.{Unary, Binary}
+use Rattle.f77_ast.specs.declared.code.Instr.TheVariants.{Accumulate, Unary, Binary}
 use Rattle.f77_ast.specs.declared.expr.Expr.{Expr}
 use Rattle.f77_ast.specs.declared.expr.Op.{Op}
 use Rattle.f77_ast.specs.declared.expr.Op.TheVariants as op
@@ -37,6 +37,11 @@ pub record Joining : Type 0 where
 
 abbrev pub joining_by : RedOp → List Instr → Joining
 joining_by op code = record { op = op; code = code }
+
+-- the value with which v is joined, and the write
+abbrev pub accumulation_code : Option Joining → List Instr
+accumulation_code None = []
+accumulation_code (Some joining) = joining.code ++ Accumulate joining.op ∷ []
 
 module _ (layout : Layout) (unit : ℕ) (v : Ref) where
   module _ (in_chain : Op → Bool) where

@@ -4,7 +4,7 @@ use Rattle.std.specs.List.{flat_map}
 use Rattle.std.specs.Option.{is_some}
 use Rattle.f77_ast.specs.Entity.{number_in}
 use Rattle.f77_ast.specs.declared.code.Instr.{Instr}
-use Rattle.f77_ast.specs.declared.code.Instr.TheVariants.{Lit, Entity, Store, Accumulate, Count, Next, Emit, EmitArray}
+use Rattle.f77_ast.specs.declared.code.Instr.TheVariants.{Lit, Entity, Store, Count, Next, Emit, EmitArray}
 use Rattle.f77_ast.specs.declared.code.Instr.TheVariants as instr
 use Rattle.f77_ast.specs.declared.expr.Expr.{Expr, out-Expr}
 use Rattle.f77_ast.specs.declared.expr.Expr.TheOpen.{Expr-F}
@@ -13,7 +13,6 @@ use Rattle.f77_ast.specs.declared.expr.Part.{Part}
 use Rattle.f77_ast.specs.declared.expr.Ref.{Ref}
 use Rattle.f77_ast.specs.declared.program.Layout.{Layout}
 use Rattle.f77_ast.specs.declared.program.Loop.{Loop}
-use Rattle.f77_ast.specs.declared.program.Unit.{Unit as ProgramUnit}
 use Rattle.f77_ast.specs.declared.stmt.Item.{Item}
 use Rattle.f77_ast.specs.declared.stmt.Item as item
 use Rattle.f77_ast.specs.declared.stmt.LoopControl.{LoopControl}
@@ -21,8 +20,7 @@ use Rattle.f77_ast.specs.declared.stmt.Stmt.{Stmt}
 use Rattle.f77_ast.specs.declared.stmt.Stmt as stmt
 use Rattle.f77_structure.specs.Arrays.{array_named}
 use Rattle.f77_structure.specs.Loops.{loop_with_range_from}
-use Rattle.f77_structure.specs.Units.{statement_number}
-use Rattle.f77_code.specs.Accumulations.{Joining, joining_code}
+use Rattle.f77_code.specs.Accumulations.{Joining, accumulation_code, joining_code}
 use Rattle.f77_code.specs.Exprs.{expr_code, ref_code}
 
 -- whether a loop ends at a statement of the file
@@ -51,7 +49,7 @@ module _ (layout : Layout) (unit : ℕ) where
   -- the value of the right side, and the write; of an accumulation what v is joined with, its read and the write
   abbrev pub assigned_code : Option Joining → Expr → List Instr
   assigned_code None value = expr_code layout unit value ++ Store ∷ []
-  assigned_code (Some joining) value = joining.code ++ Accumulate joining.op ∷ []
+  assigned_code (Some joining) value = accumulation_code (Some joining)
 
   -- an assignment: what is assigned to comes first
   abbrev pub assign_code : Ref → Expr → List Instr
@@ -72,48 +70,51 @@ module _ (layout : Layout) (unit : ℕ) where
   do_code control (Some number) None = []
   do_code control (Some number) (Some loop) = Entity number ∷ parameters_code control ++ Count loop.ordinal ∷ []
 
-  -- an item of PRINT: the elements of an array, or a value; an implied DO has no meaning yet
+  -- an expression that is an item: the elements of an array, or a value
+  abbrev pub plain_code : Expr → List Instr
+  plain_code expr = if is_some (array_named layout unit expr) then layer_place layout unit (out-Expr expr) ++ EmitArray ∷ [] else expr_code layout unit expr ++ Emit ∷ []
+
+  -- an item of PRINT; an implied DO has no meaning yet
   abbrev pub item_code : Item → List Instr
-  item_code (item.Plain expr) = if is_some (array_named layout unit expr) then layer_place layout unit (out-Expr expr) ++ EmitArray ∷ [] else expr_code layout unit expr ++ Emit ∷ []
+  item_code (item.Plain expr) = plain_code expr
   item_code (item.Implied' items rest control) = []
 
   abbrev pub items_code : List Item → List Instr
-  items_code [] = []
-  items_code (first ∷ others) = item_code first ++ items_code others
+  items_code items = flat_map item_code items
 
-module _ (units : List ProgramUnit) (loops : List Loop) (layout : Layout) (unit : ℕ) where
-  -- the code of a statement at a place of its unit, but for the ends of iterations. Statements that aren't executable have none, and what has
+module _ (loops : List Loop) (layout : Layout) (unit : ℕ) where
+  -- the code of statement `number` of the file, but for the ends of iterations. Statements that aren't executable have none, and what has
   -- no meaning yet has none
-  abbrev pub own_code : (at : ℕ) → Stmt → List Instr
-  own_code at (stmt.Assign target value) = assign_code layout unit target value
-  own_code at (stmt.Do terminal control) = do_code layout unit control (number_in layout.entities unit control.variable) (loop_with_range_from loops (statement_number units unit at + 1))
-  own_code at stmt.Continue = instr.Move ∷ []
-  own_code at stmt.Return = []
-  own_code at stmt.Else = []
-  own_code at stmt.EndIf = []
-  own_code at stmt.End = instr.Stop ∷ []
-  own_code at (stmt.Stop code) = []
-  own_code at (stmt.Goto label) = []
-  own_code at (stmt.ComputedGoto labels index) = []
-  own_code at (stmt.ArithmeticIf value negative zeroth positive) = []
-  own_code at (stmt.LogicalIf' condition pointer inner) = []
-  own_code at (stmt.BlockIf condition) = []
-  own_code at (stmt.ElseIf condition) = []
-  own_code at (stmt.Call name args) = []
-  own_code at (stmt.Print items) = items_code layout unit items ++ instr.Print ∷ []
-  own_code at (stmt.Read items) = []
-  own_code at (stmt.Program name) = []
-  own_code at (stmt.Subroutine name dummies) = []
-  own_code at (stmt.Function typ name dummies) = []
-  own_code at (stmt.Declare typ entities) = []
-  own_code at (stmt.Dimension arrays) = []
-  own_code at (stmt.Common groups) = []
-  own_code at (stmt.Equivalence groups) = []
-  own_code at (stmt.Parameter constants) = []
-  own_code at (stmt.Implicit rules) = []
-  own_code at (stmt.Save entries) = []
-  own_code at (stmt.Init groups) = []
+  abbrev pub own_code : (number : ℕ) → Stmt → List Instr
+  own_code number (stmt.Assign target value) = assign_code layout unit target value
+  own_code number (stmt.Do terminal control) = do_code layout unit control (number_in layout.entities unit control.variable) (loop_with_range_from loops (number + 1))
+  own_code number stmt.Continue = instr.Move ∷ []
+  own_code number stmt.Return = []
+  own_code number stmt.Else = []
+  own_code number stmt.EndIf = []
+  own_code number stmt.End = instr.Stop ∷ []
+  own_code number (stmt.Stop code) = []
+  own_code number (stmt.Goto label) = []
+  own_code number (stmt.ComputedGoto labels index) = []
+  own_code number (stmt.ArithmeticIf value negative zeroth positive) = []
+  own_code number (stmt.LogicalIf' condition pointer inner) = []
+  own_code number (stmt.BlockIf condition) = []
+  own_code number (stmt.ElseIf condition) = []
+  own_code number (stmt.Call name args) = []
+  own_code number (stmt.Print items) = items_code layout unit items ++ instr.Print ∷ []
+  own_code number (stmt.Read items) = []
+  own_code number (stmt.Program name) = []
+  own_code number (stmt.Subroutine name dummies) = []
+  own_code number (stmt.Function typ name dummies) = []
+  own_code number (stmt.Declare typ entities) = []
+  own_code number (stmt.Dimension arrays) = []
+  own_code number (stmt.Common groups) = []
+  own_code number (stmt.Equivalence groups) = []
+  own_code number (stmt.Parameter constants) = []
+  own_code number (stmt.Implicit rules) = []
+  own_code number (stmt.Save entries) = []
+  own_code number (stmt.Init groups) = []
 
   -- the same, with the ends of iterations
-  abbrev pub statement_code : (at : ℕ) → Stmt → List Instr
-  statement_code at stmt = own_code at stmt ++ turns_code loops (statement_number units unit at)
+  abbrev pub statement_code : (number : ℕ) → Stmt → List Instr
+  statement_code number stmt = own_code number stmt ++ turns_code loops number

@@ -3,4 +3,8 @@
 //! What code does, and that it is the code of a unit, is said in f77_meaning (`specs/Perform.antt`, `specs/IsCodeOf.antt`).
 #![tactic(auto)]
 
+mod chain;
 mod exprs;
+mod items;
+mod statements;
+mod units;
