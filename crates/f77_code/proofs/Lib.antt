@@ -1,2 +1,5 @@
+pub mod Asking
 pub mod Chains
+pub mod Entities
+pub mod Expressions
 pub mod Turns
