@@ -2,4 +2,5 @@ pub mod Asking
 pub mod Chains
 pub mod Entities
 pub mod Expressions
+pub mod Numbers
 pub mod Turns
