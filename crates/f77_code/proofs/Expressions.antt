@@ -63,7 +63,7 @@ module _ (program : Program) (texts : List (List ℕ)) (below : List Frame) (p :
   s = setting_of program p.frame
 
   -- the code of an entity
-  entity_left : (number : ℕ) (e : Entity) (is : List Instr) (stack : Stack) (answers : List ℤ) → slice_get program.layout.entities number ≡ Some e → performed program texts below (instr.Entity number ∷ is) stack answers p ≡ performed program texts below is (entity e ∷ stack) answers p
+  pub entity_left : (number : ℕ) (e : Entity) (is : List Instr) (stack : Stack) (answers : List ℤ) → slice_get program.layout.entities number ≡ Some e → performed program texts below (instr.Entity number ∷ is) stack answers p ≡ performed program texts below is (entity e ∷ stack) answers p
   entity_left number e is stack answers h = ap (λ o. with_found o (λ x. performed program texts below is (entity x ∷ stack) answers p)) h
 
   -- a variable

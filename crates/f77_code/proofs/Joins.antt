@@ -104,7 +104,7 @@ module _ (program : Program) (texts : List (List ℕ)) (below : List Frame) (p :
   pub record LeavesNumber (code : List Instr) (d : Operand) : Type 0 where
     pub leaves : (is : List Instr) (stack : Stack) (answers : List ℤ) → performed program texts below (code ++ is) stack answers p ≡ asked program texts below (d answers) p (λ n rest. performed program texts below is (value (integer n) ∷ stack) rest p)
 
-  number_leaves : (e : Expr) → IsTrue (expr_has_meaning program.units program.layout p.frame.unit e) → LeavesNumber (expr_code program.layout p.frame.unit e) (number_demand s e)
+  pub number_leaves : (e : Expr) → IsTrue (expr_has_meaning program.units program.layout p.frame.unit e) → LeavesNumber (expr_code program.layout p.frame.unit e) (number_demand s e)
   number_leaves e m = record { leaves = λ is stack answers.
     (expr_leaves program texts below p e m).leaves is stack answers
     ∙ ap (λ d. asked program texts below d p (λ x rest. performed program texts below is (value x ∷ stack) rest p)) (sym ((expr_gives s e m).same answers))

@@ -4,4 +4,5 @@ pub mod Entities
 pub mod Expressions
 pub mod Joins
 pub mod Numbers
+pub mod Steps
 pub mod Turns

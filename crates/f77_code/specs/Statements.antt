@@ -64,10 +64,10 @@ module _ (layout : Layout) (unit : ℕ) where
   abbrev pub parameters_code : LoopControl → List Instr
   parameters_code control = expr_code layout unit control.first ++ expr_code layout unit control.last ++ increment_code control.increment
 
-  -- a DO, by the number of its variable, and its loop; none where one isn't known
+  -- a DO, by the number of its variable, and its loop. Each DO has one; where none is known, its tree ends the run
   abbrev pub do_code : LoopControl → Option ℕ → Option Loop → List Instr
   do_code control None loop = []
-  do_code control (Some number) None = []
+  do_code control (Some number) None = instr.Stop ∷ []
   do_code control (Some number) (Some loop) = Entity number ∷ parameters_code control ++ Count loop.ordinal ∷ []
 
   -- an expression that is an item: the elements of an array, or a value

@@ -79,7 +79,7 @@ fn add_do(
         return Ok(());
     };
     let Some(its) = its else {
-        return Ok(());
+        return code.push(Instr::Stop);
     };
     code.push(Instr::Entity(number as u32))?;
     add_parameters(layout, unit, control, code)?;
