@@ -4,5 +4,6 @@ pub mod Entities
 pub mod Expressions
 pub mod Joins
 pub mod Numbers
+pub mod Prints
 pub mod Steps
 pub mod Turns
