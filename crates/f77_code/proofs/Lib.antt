@@ -5,5 +5,6 @@ pub mod Expressions
 pub mod Joins
 pub mod Numbers
 pub mod Prints
+pub mod Quiet
 pub mod Steps
 pub mod Turns

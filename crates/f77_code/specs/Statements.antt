@@ -20,6 +20,7 @@ use Rattle.f77_ast.specs.declared.stmt.Stmt.{Stmt}
 use Rattle.f77_ast.specs.declared.stmt.Stmt as stmt
 use Rattle.f77_structure.specs.Arrays.{array_named}
 use Rattle.f77_structure.specs.Loops.{loop_with_range_from}
+use Rattle.f77_structure.specs.Statements.{is_executable}
 use Rattle.f77_code.specs.Accumulations.{Joining, accumulation_code, joining_code}
 use Rattle.f77_code.specs.Exprs.{expr_code, ref_code}
 
@@ -83,26 +84,26 @@ module _ (layout : Layout) (unit : ℕ) where
   items_code items = flat_map item_code items
 
 module _ (loops : List Loop) (layout : Layout) (unit : ℕ) where
-  -- the code of statement `number` of the file, but for the ends of iterations. Statements that aren't executable have none, and what has
-  -- no meaning yet has none
+  -- the code of statement `number` of the file, but for the ends of iterations. END ends the run, as no unit is called yet, and so does a
+  -- statement that has no meaning yet, as its tree does. What isn't executable has no code
   abbrev pub own_code : (number : ℕ) → Stmt → List Instr
   own_code number (stmt.Assign target value) = assign_code layout unit target value
   own_code number (stmt.Do terminal control) = do_code layout unit control (number_in layout.entities unit control.variable) (loop_with_range_from loops (number + 1))
   own_code number stmt.Continue = instr.Move ∷ []
-  own_code number stmt.Return = []
-  own_code number stmt.Else = []
-  own_code number stmt.EndIf = []
+  own_code number stmt.Return = instr.Stop ∷ []
+  own_code number stmt.Else = instr.Stop ∷ []
+  own_code number stmt.EndIf = instr.Stop ∷ []
   own_code number stmt.End = instr.Stop ∷ []
-  own_code number (stmt.Stop code) = []
-  own_code number (stmt.Goto label) = []
-  own_code number (stmt.ComputedGoto labels index) = []
-  own_code number (stmt.ArithmeticIf value negative zeroth positive) = []
-  own_code number (stmt.LogicalIf' condition pointer inner) = []
-  own_code number (stmt.BlockIf condition) = []
-  own_code number (stmt.ElseIf condition) = []
-  own_code number (stmt.Call name args) = []
+  own_code number (stmt.Stop code) = instr.Stop ∷ []
+  own_code number (stmt.Goto label) = instr.Stop ∷ []
+  own_code number (stmt.ComputedGoto labels index) = instr.Stop ∷ []
+  own_code number (stmt.ArithmeticIf value negative zeroth positive) = instr.Stop ∷ []
+  own_code number (stmt.LogicalIf' condition pointer inner) = instr.Stop ∷ []
+  own_code number (stmt.BlockIf condition) = instr.Stop ∷ []
+  own_code number (stmt.ElseIf condition) = instr.Stop ∷ []
+  own_code number (stmt.Call name args) = instr.Stop ∷ []
   own_code number (stmt.Print items) = items_code layout unit items ++ instr.Print ∷ []
-  own_code number (stmt.Read items) = []
+  own_code number (stmt.Read items) = instr.Stop ∷ []
   own_code number (stmt.Program name) = []
   own_code number (stmt.Subroutine name dummies) = []
   own_code number (stmt.Function typ name dummies) = []
@@ -116,5 +117,8 @@ module _ (loops : List Loop) (layout : Layout) (unit : ℕ) where
   own_code number (stmt.Init groups) = []
 
   -- the same, with the ends of iterations
+  abbrev pub executed_code : (number : ℕ) → Stmt → List Instr
+  executed_code number stmt = own_code number stmt ++ turns_code loops number
+
   abbrev pub statement_code : (number : ℕ) → Stmt → List Instr
-  statement_code number stmt = own_code number stmt ++ turns_code loops number
+  statement_code number stmt = if is_executable stmt then executed_code number stmt else []

@@ -12,6 +12,7 @@ use f77_ast::code::{Instr, Instrs};
 use f77_ast::expr::{Expr, Ref};
 use f77_ast::program::{Layout, Loop};
 use f77_ast::stmt::{LoopControl, Stmt};
+use f77_structure::statements::is_executable;
 use hyb_base::no_memory::NoMemory;
 
 /// Adds the code of an assignment: what is assigned to comes first.
@@ -123,7 +124,7 @@ fn add_turns(loops: &[Loop], number: u32, code: &mut Instrs) -> Result<(), NoMem
     Ok(())
 }
 
-/// Adds the code of a statement, but for the ends of iterations.
+/// Adds the code of a statement, but for the ends of iterations. A statement that has no meaning yet ends the run, as its tree does.
 fn add_own(
     loops: &[Loop],
     layout: &Layout,
@@ -143,23 +144,23 @@ fn add_own(
             add_do(layout, unit, control, its, code)
         }
         Stmt::Continue => code.push(Instr::Move),
-        Stmt::Return => Ok(()),
-        Stmt::Else => Ok(()),
-        Stmt::EndIf => Ok(()),
+        Stmt::Return => code.push(Instr::Stop),
+        Stmt::Else => code.push(Instr::Stop),
+        Stmt::EndIf => code.push(Instr::Stop),
         Stmt::End => code.push(Instr::Stop),
-        Stmt::Stop(_) => Ok(()),
-        Stmt::Goto(_) => Ok(()),
-        Stmt::ComputedGoto { .. } => Ok(()),
-        Stmt::ArithmeticIf { .. } => Ok(()),
-        Stmt::LogicalIf { .. } => Ok(()),
-        Stmt::BlockIf(_) => Ok(()),
-        Stmt::ElseIf(_) => Ok(()),
-        Stmt::Call { .. } => Ok(()),
+        Stmt::Stop(_) => code.push(Instr::Stop),
+        Stmt::Goto(_) => code.push(Instr::Stop),
+        Stmt::ComputedGoto { .. } => code.push(Instr::Stop),
+        Stmt::ArithmeticIf { .. } => code.push(Instr::Stop),
+        Stmt::LogicalIf { .. } => code.push(Instr::Stop),
+        Stmt::BlockIf(_) => code.push(Instr::Stop),
+        Stmt::ElseIf(_) => code.push(Instr::Stop),
+        Stmt::Call { .. } => code.push(Instr::Stop),
         Stmt::Print(items) => {
             add_items(layout, unit, items.as_slice(), code)?;
             code.push(Instr::Print)
         }
-        Stmt::Read(_) => Ok(()),
+        Stmt::Read(_) => code.push(Instr::Stop),
         Stmt::Program(_) => Ok(()),
         Stmt::Subroutine { .. } => Ok(()),
         Stmt::Function { .. } => Ok(()),
@@ -187,6 +188,9 @@ pub fn add_statement(
     requires number { number + 1 < 2 ^ 32 }
     ensures { OnOk result (code.new ≡ code.old ++ statement_code loops.now layout.now unit number stmt.now) }
 {
+    if !is_executable(stmt) {
+        return Ok(());
+    }
     add_own(loops, layout, unit, number, stmt, code)?;
     add_turns(loops, number, code)
 }
