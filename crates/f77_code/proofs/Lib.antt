@@ -3,6 +3,7 @@ pub mod Chains
 pub mod Entities
 pub mod Expressions
 pub mod Joins
+pub mod Lists
 pub mod Numbers
 pub mod Prints
 pub mod Quiet

@@ -206,3 +206,154 @@ module _ (layout : Layout) (unit : ℕ) where
       by : (b : Bool) → after_item_end (cond b (layer_place layout unit (out-Expr e) ++ instr.EmitArray ∷ []) (expr_code layout unit e ++ instr.Emit ∷ []) ++ rest) ≡ rest
       by true = item_passed (layer_place layout unit (out-Expr e)) instr.EmitArray rest (layer_quiet (out-Expr e)) refl
       by false = item_passed (expr_code layout unit e) instr.Emit rest (expr_quiet e) refl
+
+  -- after some items
+  pub items_passed : (done : ℕ) (items : List Item) (rest : List Instr) → done ≤ length items → (units : _) → IsTrue (list_all (item_has_meaning units layout unit) items) → after_item_ends done (items_code layout unit items ++ rest) ≡ items_code layout unit (drop done items) ++ rest
+  items_passed zero items rest h units m = refl
+  items_passed (suc done) [] rest h units m = absurd (omega (arith, h))
+  items_passed (suc done) (item.Plain e ∷ items) rest h units m =
+      ap (λ c. after_item_ends done (after_item_end c)) (append_assoc (plain_code layout unit e) (items_code layout unit items) rest)
+      ∙ ap (after_item_ends done) (plain_passed e (items_code layout unit items ++ rest))
+      ∙ items_passed done items rest (omega (arith, h)) units (second_of_two (item_has_meaning units layout unit (item.Plain e)) (list_all (item_has_meaning units layout unit) items) m)
+  items_passed (suc done) (item.Implied' list pointer control ∷ items) rest h units m = absurd (cc)
+
+  first_quiet : (op : Op) (right : Expr) → Quiet (first_code op (expr_code layout unit right))
+  first_quiet op_of.Plus right = expr_quiet right
+  first_quiet op_of.Neg right = expr_quiet right
+  first_quiet op_of.Not right = expr_quiet right
+  first_quiet op_of.Add right = expr_quiet right
+  first_quiet op_of.Sub right = joined (expr_code layout unit right) (instr.Unary op_of.Neg ∷ []) (expr_quiet right) (record { all = refl })
+  first_quiet op_of.Mul right = expr_quiet right
+  first_quiet op_of.Div right = expr_quiet right
+  first_quiet op_of.Pow right = expr_quiet right
+  first_quiet op_of.Cat right = expr_quiet right
+  first_quiet (op_of.Rel rel) right = expr_quiet right
+  first_quiet op_of.And right = expr_quiet right
+  first_quiet op_of.Or right = expr_quiet right
+  first_quiet op_of.Eqv right = expr_quiet right
+  first_quiet op_of.Neqv right = expr_quiet right
+
+  -- the code of a right side that may be an accumulation
+  abbrev IfQuiet : Option (List Instr) → Type 0
+  IfQuiet None = Unit {0}
+  IfQuiet (Some code) = Quiet code
+
+  abbrev pub IfQuietly : Option Joining → Type 0
+  IfQuietly None = Unit {0}
+  IfQuietly (Some j) = Quiet j.code
+
+  module _ (v : Ref) where
+    module _ (in_chain : Op → Bool) where
+      longer_quiet : (o : Operation) (inner : Option (List Instr)) → IfQuiet inner → IfQuiet (option_map (λ chain. chain ++ expr_code layout unit o.right ++ instr.Binary o.op ∷ []) inner)
+      longer_quiet o None h = tt
+      longer_quiet o (Some code) h = joined (code ++ expr_code layout unit o.right) (instr.Binary o.op ∷ []) (joined code (expr_code layout unit o.right) h (expr_quiet o.right)) (record { all = refl })
+
+      by_operation : (inner : Expr → Option (List Instr)) → ((e : Expr) → IfQuiet (inner e)) → (o : Option Operation) → IfQuiet (chain_code_by layout unit v in_chain inner o)
+      by_operation inner h None = tt
+      by_operation inner h (Some o) = by (in_chain o.op) (is_v v o.left)
+        where
+          by : (b here : Bool) → IfQuiet (cond b (cond here (Some (first_code o.op (expr_code layout unit o.right))) (option_map (λ chain. chain ++ expr_code layout unit o.right ++ instr.Binary o.op ∷ []) (inner o.left))) None)
+          by true true = first_quiet o.op o.right
+          by true false = longer_quiet o (inner o.left) (h o.left)
+          by false here = tt
+
+      within_quiet : (operators : ℕ) (e : Expr) → IfQuiet (chain_code_within layout unit v in_chain operators e)
+      within_quiet zero e = tt
+      within_quiet (suc operators) e = by_operation (chain_code_within layout unit v in_chain operators) (within_quiet operators) (operation_of e)
+
+    named_quiet : (op : RedOp) (code : Option (List Instr)) → IfQuiet code → IfQuietly (option_map (joining_by op) code)
+    named_quiet op None h = tt
+    named_quiet op (Some code) h = h
+
+    last_quiet : (o : Option Operation) → IfQuietly (last_code layout unit v o)
+    last_quiet None = tt
+    last_quiet (Some o) = with (exchanged o.op)
+      where
+        with : (by : Option RedOp) → IfQuietly (last_code_with layout unit v o by)
+        with None = tt
+        with (Some op) = here (is_v v o.right)
+          where
+            here : (b : Bool) → IfQuietly (cond b (Some (joining_by op (expr_code layout unit o.left))) None)
+            here true = expr_quiet o.left
+            here false = tt
+
+    either : (a b : Option Joining) → IfQuietly a → IfQuietly b → IfQuietly (option_or a b)
+    either None b h g = g
+    either (Some j) b h g = h
+
+    joining_quiet : (e : Expr) → IfQuietly (joining_code layout unit v e)
+    joining_quiet e =
+        either (option_map (joining_by red.Add) (chain_code layout unit v stands_in_sum e)) (option_or (option_map (joining_by red.Mul) (chain_code layout unit v stands_in_product e)) (last_code layout unit v (operation_of e)))
+        (named_quiet red.Add (chain_code layout unit v stands_in_sum e) (within_quiet stands_in_sum (operators_at_left e) e))
+        (either (option_map (joining_by red.Mul) (chain_code layout unit v stands_in_product e)) (last_code layout unit v (operation_of e))
+        (named_quiet red.Mul (chain_code layout unit v stands_in_product e) (within_quiet stands_in_product (operators_at_left e) e))
+        (last_quiet (operation_of e)))
+
+  assigned_quiet : (j : Option Joining) (v : Expr) → IfQuietly j → Quiet (assigned_code layout unit j v)
+  assigned_quiet None v h = joined (expr_code layout unit v) (instr.Store ∷ []) (expr_quiet v) (record { all = refl })
+  assigned_quiet (Some j) v h = joined j.code (instr.Accumulate j.op ∷ []) h (record { all = refl })
+
+  assign_turnless : (target : Ref) (v : Expr) → Turnless (assign_code layout unit target v)
+  assign_turnless target v =
+      quiet_turnless (assign_code layout unit target v)
+      (joined (ref_code layout unit target) (assigned_code layout unit (joining_code layout unit target v) v) (ref_quiet target) (assigned_quiet (joining_code layout unit target v) v (joining_quiet target v)))
+
+  increment_quiet : (o : Option Expr) → Quiet (increment_code layout unit o)
+  increment_quiet None = record { all = refl }
+  increment_quiet (Some e) = expr_quiet e
+
+  parameters_quiet : (control : LoopControl) → Quiet (parameters_code layout unit control)
+  parameters_quiet control =
+      joined (expr_code layout unit control.first ++ expr_code layout unit control.last) (increment_code layout unit control.increment)
+      (joined (expr_code layout unit control.first) (expr_code layout unit control.last) (expr_quiet control.first) (expr_quiet control.last)) (increment_quiet control.increment)
+
+  do_turnless : (control : LoopControl) (number : Option ℕ) (loop : Option Loop) → Turnless (do_code layout unit control number loop)
+  do_turnless control None loop = record { all = refl }
+  do_turnless control (Some n) None = record { all = refl }
+  do_turnless control (Some n) (Some loop) =
+      quiet_turnless (instr.Entity n ∷ parameters_code layout unit control ++ instr.Count loop.ordinal ∷ [])
+      (joined (instr.Entity n ∷ parameters_code layout unit control) (instr.Count loop.ordinal ∷ []) (entity_first n (parameters_code layout unit control) (parameters_quiet control)) (record { all = refl }))
+
+  plain_turnless : (e : Expr) → Turnless (plain_code layout unit e)
+  plain_turnless e = by (is_some (array_named layout unit e))
+    where
+      by : (b : Bool) → Turnless (cond b (layer_place layout unit (out-Expr e) ++ instr.EmitArray ∷ []) (expr_code layout unit e ++ instr.Emit ∷ []))
+      by true = turnless_joined (layer_place layout unit (out-Expr e)) (instr.EmitArray ∷ []) (quiet_turnless (layer_place layout unit (out-Expr e)) (layer_quiet (out-Expr e))) (record { all = refl })
+      by false = turnless_joined (expr_code layout unit e) (instr.Emit ∷ []) (quiet_turnless (expr_code layout unit e) (expr_quiet e)) (record { all = refl })
+
+  items_turnless : (items : List Item) → Turnless (items_code layout unit items)
+  items_turnless [] = record { all = refl }
+  items_turnless (item.Plain e ∷ items) = turnless_joined (plain_code layout unit e) (items_code layout unit items) (plain_turnless e) (items_turnless items)
+  items_turnless (item.Implied' list pointer control ∷ items) = items_turnless items
+
+module _ (loops : List Loop) (layout : Layout) (unit : ℕ) where
+  -- no statement ends an iteration in its own code
+  pub own_turnless : (number : ℕ) (s : Stmt) → Turnless (own_code loops layout unit number s)
+  own_turnless number (stmt.Assign target value) = assign_turnless layout unit target value
+  own_turnless number (stmt.Do terminal control) = do_turnless layout unit control (number_in layout.entities unit control.variable) (loop_with_range_from loops (number + 1))
+  own_turnless number stmt.Continue = record { all = refl }
+  own_turnless number stmt.Return = record { all = refl }
+  own_turnless number stmt.Else = record { all = refl }
+  own_turnless number stmt.EndIf = record { all = refl }
+  own_turnless number stmt.End = record { all = refl }
+  own_turnless number (stmt.Stop code) = record { all = refl }
+  own_turnless number (stmt.Goto label) = record { all = refl }
+  own_turnless number (stmt.ComputedGoto labels index) = record { all = refl }
+  own_turnless number (stmt.ArithmeticIf value negative zeroth positive) = record { all = refl }
+  own_turnless number (stmt.LogicalIf' condition pointer inner) = record { all = refl }
+  own_turnless number (stmt.BlockIf condition) = record { all = refl }
+  own_turnless number (stmt.ElseIf condition) = record { all = refl }
+  own_turnless number (stmt.Call name args) = record { all = refl }
+  own_turnless number (stmt.Print items) = turnless_joined (items_code layout unit items) (instr.Print ∷ []) (items_turnless layout unit items) (record { all = refl })
+  own_turnless number (stmt.Read items) = record { all = refl }
+  own_turnless number (stmt.Program name) = record { all = refl }
+  own_turnless number (stmt.Subroutine name dummies) = record { all = refl }
+  own_turnless number (stmt.Function typ name dummies) = record { all = refl }
+  own_turnless number (stmt.Declare typ entities) = record { all = refl }
+  own_turnless number (stmt.Dimension arrays) = record { all = refl }
+  own_turnless number (stmt.Common groups) = record { all = refl }
+  own_turnless number (stmt.Equivalence groups) = record { all = refl }
+  own_turnless number (stmt.Parameter constants) = record { all = refl }
+  own_turnless number (stmt.Implicit rules) = record { all = refl }
+  own_turnless number (stmt.Save entries) = record { all = refl }
+  own_turnless number (stmt.Init groups) = record { all = refl }
