@@ -8,4 +8,6 @@ pub mod Numbers
 pub mod Prints
 pub mod Quiet
 pub mod Steps
+pub mod Turning
 pub mod Turns
+pub mod Whole
