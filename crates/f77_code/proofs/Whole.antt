@@ -1,6 +1,6 @@
 -- The code of a unit is its code.
 use Rattle.std.proofs.Common.{◌≡◌, ℕ, zero, suc, ◌+◌, ◌-◌, ◌<◌, ◌≤◌, ◌==◌, ◌∷◌, ◌++◌, ℤ, pos, Bool, true, false, cond, List, [], length, drop, Option, None, Some, IsTrue, refl, sym, ap, subst, ◌∙◌, append_assoc, arith, slice_get, eqb-true}
-use Rattle.std.specs.Prelude.{slice_index_or, unsigned_abs}
+use Rattle.std.specs.Prelude.{IfOk, Result, Ok, Err, slice_index_or, unsigned_abs}
 use Rattle.std.specs.List.{list_all}
 use Rattle.f77_ast.proofs.Loops.{loop_at-numbered}
 use Rattle.f77_ast.specs.Loop.{IsNumbered, loop_at}
@@ -156,3 +156,26 @@ module _ (program : Program) (loops : program.loops ≡ loops_of program.units) 
       where
         same_number : (a b : ℕ) → a ≡ b → (a == b) ≡ true
         same_number a b e = grind (arith, e)
+
+  -- the code of a unit is its code
+  pub code_is : (unit : ℕ) → IsCodeOf program unit (code_for unit)
+  code_is unit = record {
+    starts = starts_length program.loops program.layout unit (1 + statements_before program.units unit) 0 (listing_of program.units unit);
+    nexts = λ at h. next_at (listing_of program.units unit) 0 at (listing_of program.units unit) h ∙ ap (λ n. Some (pos (next_place (listing_of program.units unit) n))) (none_first at);
+    steps = λ frame below line listed h.
+        subst (λ u. performed program [] below (after_item_ends frame.items (code_at (code_for u) frame.at)) [] frame.answers (record { frame = frame; line = line }) ≡ Some (statement_move program frame below line listed.stmt)) h.same
+        (steps_here frame below line listed h.stands h.executable h.meaning h.items);
+    turns = λ frame below line active outer h.
+        subst (λ u. performed program [] below (from_iteration_end (code_at (code_for u) frame.at)) [] [] (record { frame = frame; line = line }) ≡ Some (increment_move program frame below line frame.active)) h.same
+        (turns_here frame below line h.listed active outer h.at h.label h.its h.stands h.executable h.innermost
+        (subst (λ u. IsDo (listing_of program.units u) h.at h.label) (sym h.same) h.begins) (subst (λ u. loop_of_do program u h.at ≡ Some h.its) (sym h.same) h.found) h.ordinal
+        (subst (λ u. frame.at ≡ terminal_at (listing_of program.units u) h.at h.label) (sym h.same) h.terminal));
+  }
+    where
+      none_first : (n : ℕ) → 0 + n ≡ n
+      none_first n = omega arith
+
+-- what follows from a fact of a result
+pub ok_through : {A E : Type 0} (P Q : A → Type 0) (r : Result A E) → ((a : A) → P a → Q a) → IfOk r P → IfOk r Q
+ok_through P Q (Ok a) f h = f a h
+ok_through P Q (Err e) f h = tt

@@ -7,4 +7,4 @@ mod chain;
 mod exprs;
 mod items;
 mod statements;
-mod units;
+pub mod units;

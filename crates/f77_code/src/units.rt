@@ -1,6 +1,8 @@
 //! The code of a unit.
 ghost use Rattle.std.specs.Prelude.{◌≡◌, ◌≤◌, ◌+◌, ◌<◌, ◌^◌, length, pos, IfOk};
-ghost use Rattle.f77_structure.specs.Units.{statement_count, statements_before};
+ghost use Rattle.f77_meaning.specs.IsCodeOf.{IsCodeOf};
+ghost use Rattle.f77_structure.specs.Loops.{loops_of};
+ghost use Rattle.f77_structure.specs.Units.{listing_of, statement_count, statements_before};
 ghost use Rattle.f77_code.specs.Units.{unit_code};
 
 use crate::statements::add_statement;
@@ -70,4 +72,27 @@ fn unit_code(
         targets: Nums::new(alloc),
         texts: Words::new(alloc),
     })
+}
+
+/// The code of a unit, by its number: `units` are those of the file, `loops` its loops, `listing` the statements of the unit and `layout`
+/// the entities of the file.
+///
+/// `NoMemory` where no memory was to be had, and never else. The trees may be any, also those of a file that is refused: what has no meaning
+/// yet gets no code, or code that ends the run.
+pub fn code(
+    alloc: Global,
+    units: &[Unit],
+    loops: &[Loop],
+    listing: &[Listed],
+    layout: &Layout,
+    unit: u32,
+) -> Result<Code, NoMemory>
+    requires entities { length layout.now.entities ≤ 2 ^ 32 }
+    requires listing { listing.now ≡ listing_of units.now unit }
+    requires loops { loops.now ≡ loops_of units.now }
+    requires statements { statement_count units.now + 1 < 2 ^ 32 }
+    ensures { IfOk result (λ code. IsCodeOf (record { units = units.now; layout = layout.now; loops = loops.now }) unit code) }
+{
+    let first = 1 + statements_before(units, unit);
+    unit_code(alloc, loops, layout, unit, first, listing)
 }

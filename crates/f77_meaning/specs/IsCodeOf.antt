@@ -158,6 +158,7 @@ pub record IsTurning (program : Program) (unit : ℕ) (frame : Frame) (active : 
   pub terminal : frame.at ≡ terminal_at (listing_of program.units unit) at label
   pub listed : Listed
   pub stands : listed_of program frame ≡ Some listed
+  pub executable : IsTrue (is_executable listed.stmt)
 
 -- Code is that of a unit where, from the instruction at which a statement begins, after the items that are done, on no operand and on
 -- every list of answers, it comes to the step to which the statement's trees come, and leaves no operand; where at the end of an iteration, from the
