@@ -9,3 +9,6 @@ pub mod Run
 pub mod Sound
 pub mod Step
 pub mod Laws
+pub mod Operands
+pub mod Perform
+pub mod IsCodeOf

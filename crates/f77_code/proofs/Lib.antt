@@ -1,0 +1,13 @@
+pub mod Asking
+pub mod Chains
+pub mod Entities
+pub mod Expressions
+pub mod Joins
+pub mod Lists
+pub mod Numbers
+pub mod Prints
+pub mod Quiet
+pub mod Steps
+pub mod Turning
+pub mod Turns
+pub mod Whole
