@@ -97,32 +97,38 @@ module _ (program : Program) (texts : List (List ℕ)) (below : List Frame) (p :
 
   -- a place that is loaded
   loaded : (code : List Instr) (location : Location) → LeavesPlace program texts below p code location → LeavesValue program texts below p (code ++ instr.Load ∷ []) (λ answers. and_then (location answers) (value_at s))
-  loaded code location l = record { leaves = λ is stack answers.
-    ap (λ c. performed program texts below c stack answers p) (append_assoc code (instr.Load ∷ []) is)
-    ∙ l.leaves (instr.Load ∷ is) stack answers
-    ∙ asked_where program texts below p (location answers)
-    (λ at rest. performed program texts below (instr.Load ∷ is) (l.operand at ∷ stack) rest p)
-    (λ at rest. asked program texts below (value_at s at rest) p (λ x more. performed program texts below is (value x ∷ stack) more p))
-    (λ at rest g. with_place_there program texts below p (l.operand at) at stack (λ there left. asked program texts below (and_then (there rest) (value_at s)) p (λ x more. performed program texts below is (value x ∷ left) more p)) (l.there answers rest at g))
-    ∙ sym (asked_then program texts below p (location answers) (value_at s) (λ x more. performed program texts below is (value x ∷ stack) more p)) }
+  loaded code location l = record {
+    leaves = λ is stack answers.
+        ap (λ c. performed program texts below c stack answers p) (append_assoc code (instr.Load ∷ []) is)
+        ∙ l.leaves (instr.Load ∷ is) stack answers
+        ∙ asked_where program texts below p (location answers)
+        (λ at rest. performed program texts below (instr.Load ∷ is) (l.operand at ∷ stack) rest p)
+        (λ at rest. asked program texts below (value_at s at rest) p (λ x more. performed program texts below is (value x ∷ stack) more p))
+        (λ at rest g. with_place_there program texts below p (l.operand at) at stack (λ there left. asked program texts below (and_then (there rest) (value_at s)) p (λ x more. performed program texts below is (value x ∷ left) more p)) (l.there answers rest at g))
+        ∙ sym (asked_then program texts below p (location answers) (value_at s) (λ x more. performed program texts below is (value x ∷ stack) more p));
+  }
 
   -- one operator on an operand
   unary_leaves : (op : _) (code : List Instr) (d : Evaluation) → LeavesValue program texts below p code d → LeavesValue program texts below p (code ++ instr.Unary op ∷ []) (λ answers. and_then (d answers) (λ x rest. operated (unary_of op x) rest))
-  unary_leaves op code d l = record { leaves = λ is stack answers.
-    ap (λ c. performed program texts below c stack answers p) (append_assoc code (instr.Unary op ∷ []) is)
-    ∙ l.leaves (instr.Unary op ∷ is) stack answers
-    ∙ sym (asked_then program texts below p (d answers) (λ x rest. operated (unary_of op x) rest) (λ y more. performed program texts below is (value y ∷ stack) more p)) }
+  unary_leaves op code d l = record {
+    leaves = λ is stack answers.
+        ap (λ c. performed program texts below c stack answers p) (append_assoc code (instr.Unary op ∷ []) is)
+        ∙ l.leaves (instr.Unary op ∷ is) stack answers
+        ∙ sym (asked_then program texts below p (d answers) (λ x rest. operated (unary_of op x) rest) (λ y more. performed program texts below is (value y ∷ stack) more p));
+  }
 
   -- on two, from the left
   binary_leaves : (op : _) (left right : List Instr) (d e : Evaluation) → LeavesValue program texts below p left d → LeavesValue program texts below p right e → LeavesValue program texts below p (left ++ right ++ instr.Binary op ∷ []) (λ answers. and_then (d answers) (λ x rest. and_then (e rest) (λ y more. operated (binary_of op x y) more)))
-  binary_leaves op left right d e l r = record { leaves = λ is stack answers.
-    ap (λ c. performed program texts below c stack answers p) (append_assoc (left ++ right) (instr.Binary op ∷ []) is ∙ append_assoc left right (instr.Binary op ∷ is))
-    ∙ l.leaves (right ++ instr.Binary op ∷ is) stack answers
-    ∙ asked_same program texts below p (d answers)
-    (λ x rest. performed program texts below (right ++ instr.Binary op ∷ is) (value x ∷ stack) rest p)
-    (λ x rest. asked program texts below (and_then (e rest) (λ y more. operated (binary_of op x y) more)) p (λ z more. performed program texts below is (value z ∷ stack) more p))
-    (λ x rest. r.leaves (instr.Binary op ∷ is) (value x ∷ stack) rest ∙ sym (asked_then program texts below p (e rest) (λ y more. operated (binary_of op x y) more) (λ z more. performed program texts below is (value z ∷ stack) more p)))
-    ∙ sym (asked_then program texts below p (d answers) (λ x rest. and_then (e rest) (λ y more. operated (binary_of op x y) more)) (λ z more. performed program texts below is (value z ∷ stack) more p)) }
+  binary_leaves op left right d e l r = record {
+    leaves = λ is stack answers.
+        ap (λ c. performed program texts below c stack answers p) (append_assoc (left ++ right) (instr.Binary op ∷ []) is ∙ append_assoc left right (instr.Binary op ∷ is))
+        ∙ l.leaves (right ++ instr.Binary op ∷ is) stack answers
+        ∙ asked_same program texts below p (d answers)
+        (λ x rest. performed program texts below (right ++ instr.Binary op ∷ is) (value x ∷ stack) rest p)
+        (λ x rest. asked program texts below (and_then (e rest) (λ y more. operated (binary_of op x y) more)) p (λ z more. performed program texts below is (value z ∷ stack) more p))
+        (λ x rest. r.leaves (instr.Binary op ∷ is) (value x ∷ stack) rest ∙ sym (asked_then program texts below p (e rest) (λ y more. operated (binary_of op x y) more) (λ z more. performed program texts below is (value z ∷ stack) more p)))
+        ∙ sym (asked_then program texts below p (d answers) (λ x rest. and_then (e rest) (λ y more. operated (binary_of op x y) more)) (λ z more. performed program texts below is (value z ∷ stack) more p));
+  }
 
   abbrev ExprLeaves : Expr → Type 0
   ExprLeaves e = IsTrue (expr_has_meaning program.units program.layout p.frame.unit e) → LeavesValue program texts below p (expr_code program.layout p.frame.unit e) (demand_of s e)

@@ -213,8 +213,10 @@ module _ (s : Setting) where
       record { same = λ answers. twice (demand_of s x.0 answers) (λ v rest. operated (unary_of o v) rest) as_integer ∙ ap (and_then (demand_of s x.0 answers)) (λ i v rest. sign_gives o v rest sign i) })
   expr_layer (layer.Binary o x y) = of_layer (layer.Binary o x.0 y.0) (λ m.
       let arithmetic = first_of_two (is_arithmetic o) (expr_has_meaning s.program.units s.program.layout s.unit x.0 && expr_has_meaning s.program.units s.program.layout s.unit y.0) m in
-      record { same = λ answers. twice (demand_of s x.0 answers) (λ v rest. and_then (demand_of s y.0 rest) (λ w more. operated (binary_of o v w) more)) as_integer
-        ∙ ap (and_then (demand_of s x.0 answers)) (λ i v rest. (twice (demand_of s y.0 rest) (λ w more. operated (binary_of o v w) more) as_integer ∙ ap (and_then (demand_of s y.0 rest)) (λ j w more. arithmetic_gives o v w more arithmetic j)) i) })
+      record {
+        same = λ answers. twice (demand_of s x.0 answers) (λ v rest. and_then (demand_of s y.0 rest) (λ w more. operated (binary_of o v w) more)) as_integer
+            ∙ ap (and_then (demand_of s x.0 answers)) (λ i v rest. (twice (demand_of s y.0 rest) (λ w more. operated (binary_of o v w) more) as_integer ∙ ap (and_then (demand_of s y.0 rest)) (λ j w more. arithmetic_gives o v w more arithmetic j)) i);
+      })
   expr_layer (layer.Paren x) = of_layer (layer.Paren x.0) (λ m. x.1 m)
 
   ref_by : (y : Ref-F SomeExpr SomePart SomeRef) (args : Option (List SomeExpr)) (part : Option SomePart) → IsTrue (meaning_ref s.program.units s.program.layout s.unit (tested_ref (plain_ref (record y { args = args; part = part })))) → StandsForInteger (ref_step s (termed_ref (plain_ref (record y { args = args; part = part }))))
