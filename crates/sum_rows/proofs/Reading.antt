@@ -1,5 +1,5 @@
--- Symbols may be evaluated over bindings without entities, and no cells.
-use Rattle.std.proofs.Common.{◌≡◌, ℕ, ◌*◌, ◌+◌, ◌≤ℤ◌, ◌<ℤ◌, ◌+ℤ◌, ℤ, pos, [], Bool, true, false, ◌&&◌, IsTrue, Some, slice_get, unwrap_or, int_le, int_lt, refl, subst, sym, arith}
+-- Symbols may be evaluated over bindings without entities, whatever the cells.
+use Rattle.std.proofs.Common.{◌≡◌, ℕ, ◌*◌, ◌+◌, ◌≤ℤ◌, ◌<ℤ◌, ◌+ℤ◌, ℤ, pos, List, [], Bool, true, false, ◌&&◌, IsTrue, Some, slice_get, unwrap_or, int_le, int_lt, refl, subst, sym, arith}
 use Rattle.std.proofs.lemmas.Int.{ints}
 use Rattle.hyb_base.specs.declared.env.Base.TheVariants.{At}
 use Rattle.hyb_base.specs.declared.env.Env.{Env}
@@ -26,8 +26,8 @@ no_region env h r z = subst (λ spans. IsTrue (is_within (unwrap_or (slice_get s
 no_entity : (env : Env) → env.bases ≡ [] → (entity a : ℕ) → slice_get env.bases entity ≡ Some (At a) → ⊥
 no_entity env h entity a = subst (λ bases. slice_get bases entity ≡ Some (At a) → ⊥) (sym h) (λ e. cc)
 
-pub is_readable : (env : Env) → IsBare env → IsReadable env [] (λ _. true)
-is_readable env h = record {
+pub is_readable : (env : Env) (cells : List ℤ) → IsBare env → IsReadable env cells (λ _. true)
+is_readable env cells h = record {
   fits = record { bound = λ entity a e. absurd (no_entity env h.bases entity a e); within = λ r z e. absurd (no_region env h.spans r z e) };
   allowed = λ a e. refl;
 }

@@ -22,9 +22,9 @@
 
 mod judge;
 mod members;
-mod no_cells;
 mod rows;
 mod spelled;
+mod store;
 mod words;
 
 use anyhow::{Context, Result, ensure};

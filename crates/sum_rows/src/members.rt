@@ -2,7 +2,7 @@
 ghost use Rattle.std.specs.Prelude.{◌<◌, length, IfOk};
 ghost use Rattle.sum_rows.specs.Bare.{IsBare};
 
-use crate::no_cells::NoCells;
+use crate::store::Store;
 use hyb_base::env::{Bases, Env};
 use hyb_base::no_memory::NoMemory;
 use hyb_base::nums::Nums;
@@ -40,7 +40,11 @@ fn told_of(
     requires { id < length graph.now }
 {
     let mut env = bindings(alloc, values)?;
-    ask(alloc, graph, id, address, &mut env, &mut NoCells)
+    let mut cells = Store {
+        nums: Nums::new(alloc),
+        reads: 0,
+    };
+    ask(alloc, graph, id, address, &mut env, &mut cells)
 }
 
 /// What is told of each address and a node.
