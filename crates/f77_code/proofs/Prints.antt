@@ -86,7 +86,7 @@ module _ (program : Program) (unit : ℕ) where
   layer_placed (layer.Paren x) array e = absurd (cc)
 
   -- the array that an expression names
-  array_placed : (e : Expr) (array : Entity) → array_named program.layout unit e ≡ Some array → IsPlaced program.layout.entities (layer_place program.layout unit (out-Expr e)) array
+  pub array_placed : (e : Expr) (array : Entity) → array_named program.layout unit e ≡ Some array → IsPlaced program.layout.entities (layer_place program.layout unit (out-Expr e)) array
   array_placed e array h =
       layer_placed (out-Expr e) array
       (sym (fold-roll-Expr (Option Entity) (Unit {0}) (Option Entity) array_step array_part (array_ref program.layout unit) (out-Expr e)) ∙ ap (array_named program.layout unit) (roll-out-Expr e) ∙ h)

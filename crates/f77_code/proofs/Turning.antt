@@ -21,7 +21,7 @@ same_number : (a b : ℕ) → a ≡ b → (a == b) ≡ true
 same_number a b e = grind (arith, e)
 
 -- all of them end iterations
-turns_end : (loops : List Loop) (number : ℕ) → list_all ends_iteration (turns_code loops number) ≡ true
+pub turns_end : (loops : List Loop) (number : ℕ) → list_all ends_iteration (turns_code loops number) ≡ true
 turns_end [] number = refl
 turns_end (loop ∷ loops) number = list_all-append ends_iteration (turns_code loops number) (turn_if (ends_at number loop) loop) ∙ (λ i. turns_end loops number i && one (ends_at number loop) i)
   where
