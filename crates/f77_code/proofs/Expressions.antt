@@ -1,5 +1,5 @@
 -- The code of an expression leaves its value, and that of a reference its place.
-use Rattle.std.proofs.Common.{◌≡◌, ℕ, ℤ, pos, Bool, true, false, cond, List, [], ◌∷◌, ◌++◌, map, Option, None, Some, IsTrue, refl, sym, ap, subst, ◌∙◌, append_assoc, slice_get}
+use Rattle.std.proofs.Common.{◌≡◌, ℕ, ℤ, Bool, true, false, cond, List, [], ◌∷◌, ◌++◌, Option, None, Some, IsTrue, refl, sym, ap, subst, ◌∙◌, append_assoc, slice_get}
 use Rattle.std.specs.Prelude.{◌&&◌}
 use Rattle.f77_ast.specs.Entity.{entity_in, is_named, number_in}
 use Rattle.f77_ast.specs.declared.code.Instr.{Instr}
@@ -15,16 +15,16 @@ use Rattle.f77_ast.specs.declared.program.Entity.{Entity}
 use Rattle.f77_ast.specs.declared.program.Place.{Place}
 use Rattle.f77_ast.specs.declared.program.Place.TheVariants.{Stored, Dummy, Constant}
 use Rattle.f77_ast.specs.declared.program.Program.{Program}
-use Rattle.f77_structure.specs.HasMeaning.{expr_has_meaning, is_integer_variable, is_integer_vector, is_whole, meaning_part, meaning_ref, meaning_step, names_integer, ref_has_meaning}
+use Rattle.f77_structure.specs.HasMeaning.{expr_has_meaning, is_integer_variable, is_integer_vector, meaning_part, meaning_ref, meaning_step, ref_has_meaning}
 use Rattle.f77_structure.specs.Storage.{address_of_element, address_of_variable, is_scalar, is_stored, is_vector, stored_at}
-use Rattle.f77_structure.specs.Values.{binary_of, integer, is_arithmetic, is_integer_kind, is_sign, truth, unary_of}
-use Rattle.f77_meaning.specs.Demand.{Bounds, Demand, Evaluation, Located, Location, Setting, Term, and_then, bounds_of, demand_of, expr_step, gives, located, located_by, located_part, location_of, number_of, operated, part_step, place_by, place_of, ref_step, setting_of, stored, term, term_of, value_at}
+use Rattle.f77_structure.specs.Values.{binary_of, is_arithmetic, is_integer_kind, is_sign, unary_of}
+use Rattle.f77_meaning.specs.Demand.{Bounds, Evaluation, Located, Location, Setting, Term, and_then, bounds_of, demand_of, expr_step, gives, located, located_by, location_of, number_of, operated, part_step, place_by, place_of, ref_step, setting_of, stored, term, term_of, value_at}
 use Rattle.f77_meaning.specs.Operands.{Stack, entity, place, value}
 use Rattle.f77_meaning.specs.Perform.{asked, given, performed, with_found}
 use Rattle.f77_meaning.specs.Print.{Printing}
 use Rattle.f77_meaning.specs.Process.{Frame}
 use Rattle.f77_code.specs.Exprs.{code_part, code_ref, code_step, expr_code, place_code, ref_code}
-use Rattle.f77_code.proofs.Asking.{IsAtPlace, LeavesPlace, LeavesValue, asked_same, asked_then, asked_where, with_place_there}
+use Rattle.f77_code.proofs.Asking.{LeavesPlace, LeavesValue, asked_same, asked_then, asked_where, with_place_there}
 use Rattle.f77_code.proofs.Entities.{HasNumber, found_at}
 
 -- tests
@@ -97,32 +97,38 @@ module _ (program : Program) (texts : List (List ℕ)) (below : List Frame) (p :
 
   -- a place that is loaded
   loaded : (code : List Instr) (location : Location) → LeavesPlace program texts below p code location → LeavesValue program texts below p (code ++ instr.Load ∷ []) (λ answers. and_then (location answers) (value_at s))
-  loaded code location l = record { leaves = λ is stack answers.
-    ap (λ c. performed program texts below c stack answers p) (append_assoc code (instr.Load ∷ []) is)
-    ∙ l.leaves (instr.Load ∷ is) stack answers
-    ∙ asked_where program texts below p (location answers)
-    (λ at rest. performed program texts below (instr.Load ∷ is) (l.operand at ∷ stack) rest p)
-    (λ at rest. asked program texts below (value_at s at rest) p (λ x more. performed program texts below is (value x ∷ stack) more p))
-    (λ at rest g. with_place_there program texts below p (l.operand at) at stack (λ there left. asked program texts below (and_then (there rest) (value_at s)) p (λ x more. performed program texts below is (value x ∷ left) more p)) (l.there answers rest at g))
-    ∙ sym (asked_then program texts below p (location answers) (value_at s) (λ x more. performed program texts below is (value x ∷ stack) more p)) }
+  loaded code location l = record {
+    leaves = λ is stack answers.
+        ap (λ c. performed program texts below c stack answers p) (append_assoc code (instr.Load ∷ []) is)
+        ∙ l.leaves (instr.Load ∷ is) stack answers
+        ∙ asked_where program texts below p (location answers)
+        (λ at rest. performed program texts below (instr.Load ∷ is) (l.operand at ∷ stack) rest p)
+        (λ at rest. asked program texts below (value_at s at rest) p (λ x more. performed program texts below is (value x ∷ stack) more p))
+        (λ at rest g. with_place_there program texts below p (l.operand at) at stack (λ there left. asked program texts below (and_then (there rest) (value_at s)) p (λ x more. performed program texts below is (value x ∷ left) more p)) (l.there answers rest at g))
+        ∙ sym (asked_then program texts below p (location answers) (value_at s) (λ x more. performed program texts below is (value x ∷ stack) more p));
+  }
 
   -- one operator on an operand
   unary_leaves : (op : _) (code : List Instr) (d : Evaluation) → LeavesValue program texts below p code d → LeavesValue program texts below p (code ++ instr.Unary op ∷ []) (λ answers. and_then (d answers) (λ x rest. operated (unary_of op x) rest))
-  unary_leaves op code d l = record { leaves = λ is stack answers.
-    ap (λ c. performed program texts below c stack answers p) (append_assoc code (instr.Unary op ∷ []) is)
-    ∙ l.leaves (instr.Unary op ∷ is) stack answers
-    ∙ sym (asked_then program texts below p (d answers) (λ x rest. operated (unary_of op x) rest) (λ y more. performed program texts below is (value y ∷ stack) more p)) }
+  unary_leaves op code d l = record {
+    leaves = λ is stack answers.
+        ap (λ c. performed program texts below c stack answers p) (append_assoc code (instr.Unary op ∷ []) is)
+        ∙ l.leaves (instr.Unary op ∷ is) stack answers
+        ∙ sym (asked_then program texts below p (d answers) (λ x rest. operated (unary_of op x) rest) (λ y more. performed program texts below is (value y ∷ stack) more p));
+  }
 
   -- on two, from the left
   binary_leaves : (op : _) (left right : List Instr) (d e : Evaluation) → LeavesValue program texts below p left d → LeavesValue program texts below p right e → LeavesValue program texts below p (left ++ right ++ instr.Binary op ∷ []) (λ answers. and_then (d answers) (λ x rest. and_then (e rest) (λ y more. operated (binary_of op x y) more)))
-  binary_leaves op left right d e l r = record { leaves = λ is stack answers.
-    ap (λ c. performed program texts below c stack answers p) (append_assoc (left ++ right) (instr.Binary op ∷ []) is ∙ append_assoc left right (instr.Binary op ∷ is))
-    ∙ l.leaves (right ++ instr.Binary op ∷ is) stack answers
-    ∙ asked_same program texts below p (d answers)
-    (λ x rest. performed program texts below (right ++ instr.Binary op ∷ is) (value x ∷ stack) rest p)
-    (λ x rest. asked program texts below (and_then (e rest) (λ y more. operated (binary_of op x y) more)) p (λ z more. performed program texts below is (value z ∷ stack) more p))
-    (λ x rest. r.leaves (instr.Binary op ∷ is) (value x ∷ stack) rest ∙ sym (asked_then program texts below p (e rest) (λ y more. operated (binary_of op x y) more) (λ z more. performed program texts below is (value z ∷ stack) more p)))
-    ∙ sym (asked_then program texts below p (d answers) (λ x rest. and_then (e rest) (λ y more. operated (binary_of op x y) more)) (λ z more. performed program texts below is (value z ∷ stack) more p)) }
+  binary_leaves op left right d e l r = record {
+    leaves = λ is stack answers.
+        ap (λ c. performed program texts below c stack answers p) (append_assoc (left ++ right) (instr.Binary op ∷ []) is ∙ append_assoc left right (instr.Binary op ∷ is))
+        ∙ l.leaves (right ++ instr.Binary op ∷ is) stack answers
+        ∙ asked_same program texts below p (d answers)
+        (λ x rest. performed program texts below (right ++ instr.Binary op ∷ is) (value x ∷ stack) rest p)
+        (λ x rest. asked program texts below (and_then (e rest) (λ y more. operated (binary_of op x y) more)) p (λ z more. performed program texts below is (value z ∷ stack) more p))
+        (λ x rest. r.leaves (instr.Binary op ∷ is) (value x ∷ stack) rest ∙ sym (asked_then program texts below p (e rest) (λ y more. operated (binary_of op x y) more) (λ z more. performed program texts below is (value z ∷ stack) more p)))
+        ∙ sym (asked_then program texts below p (d answers) (λ x rest. and_then (e rest) (λ y more. operated (binary_of op x y) more)) (λ z more. performed program texts below is (value z ∷ stack) more p));
+  }
 
   abbrev ExprLeaves : Expr → Type 0
   ExprLeaves e = IsTrue (expr_has_meaning program.units program.layout p.frame.unit e) → LeavesValue program texts below p (expr_code program.layout p.frame.unit e) (demand_of s e)

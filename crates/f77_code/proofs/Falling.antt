@@ -1,5 +1,5 @@
 -- The ends of inner loops come before those of outer ones.
-use Rattle.std.proofs.Common.{◌≡◌, ℕ, zero, suc, ◌+◌, ◌<◌, ◌∷◌, ◌++◌, Bool, true, false, cond, List, [], length, drop, Option, None, Some, IsTrue, refl, sym, ap, subst, ◌∙◌, append_assoc, arith, slice_get}
+use Rattle.std.proofs.Common.{◌≡◌, ℕ, suc, ◌+◌, ◌<◌, ◌∷◌, ◌++◌, Bool, true, false, cond, List, [], length, drop, Option, None, Some, refl, sym, ap, subst, ◌∙◌, append_assoc, arith, slice_get}
 use Rattle.std.specs.Prelude.{not}
 use Rattle.std.specs.List.{list_all, prefix_len}
 use Rattle.std.proofs.Math.ListN.{length-append}
@@ -21,10 +21,10 @@ use Rattle.f77_meaning.specs.Height.{FallBelow, turn_ordinals}
 use Rattle.f77_meaning.specs.IsCodeOf.{ends_iteration, from_iteration_end}
 use Rattle.f77_code.specs.Accumulations.{Joining, joining_code}
 use Rattle.f77_code.specs.Exprs.{expr_code, ref_code}
-use Rattle.f77_code.specs.Statements.{assign_code, assigned_code, do_code, ends_at, items_code, own_code, parameters_code, statement_code, turn_if, turns_code}
+use Rattle.f77_code.specs.Statements.{assign_code, assigned_code, do_code, ends_at, items_code, own_code, parameters_code, turn_if, turns_code}
 use Rattle.f77_code.specs.Units.{instrs_from}
-use Rattle.f77_code.proofs.Expressions.{first_of_two, second_of_two}
-use Rattle.f77_code.proofs.Quiet.{Turnless, own_turnless}
+use Rattle.f77_code.proofs.Expressions.{first_of_two}
+use Rattle.f77_code.proofs.Quiet.{own_turnless}
 use Rattle.f77_code.proofs.Turning.{own_passed, turns_end}
 
 -- an instruction that ends no iteration

@@ -11,7 +11,7 @@ use Rattle.hyb_base.proofs.Reductions.{operators_reduce}
 use Rattle.f77_ast.specs.declared.code.Instr.{Instr}
 use Rattle.f77_ast.specs.declared.code.Instr.TheVariants as instr
 use Rattle.f77_ast.specs.declared.expr.Expr.{Expr, out-Expr, roll-out-Expr}
-use Rattle.f77_ast.specs.declared.expr.Expr.TheFolds.{fold-Part, fold-roll-Expr, map-Expr}
+use Rattle.f77_ast.specs.declared.expr.Expr.TheFolds.{fold-roll-Expr, map-Expr}
 use Rattle.f77_ast.specs.declared.expr.Expr.TheOpen.{Expr-F, Part-F, Ref-F}
 use Rattle.f77_ast.specs.declared.expr.Expr.TheOpen as layer
 use Rattle.f77_ast.specs.declared.expr.Op.{Op}
@@ -20,18 +20,18 @@ use Rattle.f77_ast.specs.declared.expr.Part.{Part}
 use Rattle.f77_ast.specs.declared.expr.Ref.{Ref}
 use Rattle.f77_ast.specs.declared.program.Program.{Program}
 use Rattle.f77_structure.specs.HasMeaning.{expr_has_meaning, meaning_part, meaning_ref, meaning_step, ref_has_meaning}
-use Rattle.f77_structure.specs.Values.{Value, binary_of, integer, is_arithmetic, unary_of}
+use Rattle.f77_structure.specs.Values.{binary_of, integer, is_arithmetic}
 use Rattle.f77_meaning.specs.Assign.{Accumulation, Held, Operand, Operation, accumulates_by, accumulation_of, chain_by, chain_of, chain_within, exchanged, held_first, held_last, held_next, is_v, joined_by, last_by, last_with, layer_operation, operation_of, operators_at_left, stands_in_product, stands_in_sum}
-use Rattle.f77_meaning.specs.Demand.{Demand, gives, wants, calls, fails, and_then, Evaluation, Setting, demand_of, number_demand, number_of, operated, setting_of}
+use Rattle.f77_meaning.specs.Demand.{gives, and_then, Setting, demand_of, number_demand, number_of, operated, setting_of}
 use Rattle.f77_meaning.specs.Operands.{Stack, value}
 use Rattle.f77_meaning.specs.Perform.{asked, performed}
 use Rattle.f77_meaning.specs.Print.{Printing}
 use Rattle.f77_meaning.specs.Process.{Frame}
 use Rattle.f77_code.specs.Accumulations.{Joining, chain_code, chain_code_by, chain_code_within, first_code, joining_by, joining_code, last_code, last_code_with}
 use Rattle.f77_code.specs.Exprs.{expr_code}
-use Rattle.f77_code.proofs.Asking.{LeavesValue, asked_same, asked_then}
+use Rattle.f77_code.proofs.Asking.{asked_same, asked_then}
 use Rattle.f77_code.proofs.Expressions.{expr_leaves, first_of_two, second_of_two}
-use Rattle.f77_code.proofs.Numbers.{GivesNumber, expr_gives, twice}
+use Rattle.f77_code.proofs.Numbers.{expr_gives, twice}
 
 -- an operator of a chain, on two numbers and on v
 record Chains (op : RedOp) (o : Op) : Type 0 where
@@ -105,11 +105,13 @@ module _ (program : Program) (texts : List (List ℕ)) (below : List Frame) (p :
     pub leaves : (is : List Instr) (stack : Stack) (answers : List ℤ) → performed program texts below (code ++ is) stack answers p ≡ asked program texts below (d answers) p (λ n rest. performed program texts below is (value (integer n) ∷ stack) rest p)
 
   pub number_leaves : (e : Expr) → IsTrue (expr_has_meaning program.units program.layout p.frame.unit e) → LeavesNumber (expr_code program.layout p.frame.unit e) (number_demand s e)
-  number_leaves e m = record { leaves = λ is stack answers.
-    (expr_leaves program texts below p e m).leaves is stack answers
-    ∙ ap (λ d. asked program texts below d p (λ x rest. performed program texts below is (value x ∷ stack) rest p)) (sym ((expr_gives s e m).same answers))
-    ∙ asked_then program texts below p (demand_of s e answers) (λ x rest. gives (integer (number_of x)) rest) (λ x rest. performed program texts below is (value x ∷ stack) rest p)
-    ∙ sym (asked_then program texts below p (demand_of s e answers) (λ x rest. gives (number_of x) rest) (λ n rest. performed program texts below is (value (integer n) ∷ stack) rest p)) }
+  number_leaves e m = record {
+    leaves = λ is stack answers.
+        (expr_leaves program texts below p e m).leaves is stack answers
+        ∙ ap (λ d. asked program texts below d p (λ x rest. performed program texts below is (value x ∷ stack) rest p)) (sym ((expr_gives s e m).same answers))
+        ∙ asked_then program texts below p (demand_of s e answers) (λ x rest. gives (integer (number_of x)) rest) (λ x rest. performed program texts below is (value x ∷ stack) rest p)
+        ∙ sym (asked_then program texts below p (demand_of s e answers) (λ x rest. gives (number_of x) rest) (λ n rest. performed program texts below is (value (integer n) ∷ stack) rest p));
+  }
 
   -- the code of a right side with v held open
   pub record Joins (op : RedOp) (held : Held) (code : List Instr) : Type 0 where
@@ -119,10 +121,12 @@ module _ (program : Program) (texts : List (List ℕ)) (below : List Frame) (p :
 
   -- a sign before a number
   negated : (code : List Instr) (d : Operand) → LeavesNumber code d → LeavesNumber (code ++ instr.Unary Neg ∷ []) (λ answers. and_then (d answers) (λ y rest. gives (negation_of y) rest))
-  negated code d l = record { leaves = λ is stack answers.
-    ap (λ c. performed program texts below c stack answers p) (append_assoc code (instr.Unary Neg ∷ []) is)
-    ∙ l.leaves (instr.Unary Neg ∷ is) stack answers
-    ∙ sym (asked_then program texts below p (d answers) (λ y rest. gives (negation_of y) rest) (λ n rest. performed program texts below is (value (integer n) ∷ stack) rest p)) }
+  negated code d l = record {
+    leaves = λ is stack answers.
+        ap (λ c. performed program texts below c stack answers p) (append_assoc code (instr.Unary Neg ∷ []) is)
+        ∙ l.leaves (instr.Unary Neg ∷ is) stack answers
+        ∙ sym (asked_then program texts below p (d answers) (λ y rest. gives (negation_of y) rest) (λ n rest. performed program texts below is (value (integer n) ∷ stack) rest p));
+  }
 
   differs : (v y : ℤ) → joined_by Sub v y ≡ apply red.Add v (negation_of y)
   differs v y = sym (int_wrap-add_right w64 v (neg_ℤ y))
@@ -173,20 +177,22 @@ module _ (program : Program) (texts : List (List ℕ)) (below : List Frame) (p :
   next_joins : (op : RedOp) (o : Op) (right : Expr) (held : Held) (code : List Instr) → Chains op o → IsTrue (expr_has_meaning program.units program.layout p.frame.unit right) → Joins op held code → Joins op (held_next o (number_demand s right) held) (code ++ expr_code program.layout p.frame.unit right ++ instr.Binary o ∷ [])
   next_joins op o right held code c m j = record {
     number = λ answers. and_then (j.number answers) (λ z rest. and_then (number_demand s right rest) (λ y more. gives (joined_by o z y) more));
-    leaves = record { leaves = λ is stack answers.
-      ap (λ c. performed program texts below c stack answers p) (append_assoc (code ++ expr_code program.layout p.frame.unit right) (instr.Binary o ∷ []) is ∙ append_assoc code (expr_code program.layout p.frame.unit right) (instr.Binary o ∷ is))
-      ∙ j.leaves.leaves (expr_code program.layout p.frame.unit right ++ instr.Binary o ∷ is) stack answers
-      ∙ asked_same program texts below p (j.number answers)
-      (λ z rest. performed program texts below (expr_code program.layout p.frame.unit right ++ instr.Binary o ∷ is) (value (integer z) ∷ stack) rest p)
-      (λ z rest. asked program texts below (and_then (number_demand s right rest) (λ y more. gives (joined_by o z y) more)) p (λ n more. performed program texts below is (value (integer n) ∷ stack) more p))
-      (λ z rest.
-      (number_leaves right m).leaves (instr.Binary o ∷ is) (value (integer z) ∷ stack) rest
-      ∙ asked_same program texts below p (number_demand s right rest)
-      (λ y more. performed program texts below (instr.Binary o ∷ is) (value (integer y) ∷ value (integer z) ∷ stack) more p)
-      (λ y more. performed program texts below is (value (integer (joined_by o z y)) ∷ stack) more p)
-      (λ y more. ap (λ d. asked program texts below d p (λ x left. performed program texts below is (value x ∷ stack) left p)) (c.binary z y more))
-      ∙ sym (asked_then program texts below p (number_demand s right rest) (λ y more. gives (joined_by o z y) more) (λ n more. performed program texts below is (value (integer n) ∷ stack) more p)))
-      ∙ sym (asked_then program texts below p (j.number answers) (λ z rest. and_then (number_demand s right rest) (λ y more. gives (joined_by o z y) more)) (λ n more. performed program texts below is (value (integer n) ∷ stack) more p)) };
+    leaves = record {
+      leaves = λ is stack answers.
+          ap (λ c. performed program texts below c stack answers p) (append_assoc (code ++ expr_code program.layout p.frame.unit right) (instr.Binary o ∷ []) is ∙ append_assoc code (expr_code program.layout p.frame.unit right) (instr.Binary o ∷ is))
+          ∙ j.leaves.leaves (expr_code program.layout p.frame.unit right ++ instr.Binary o ∷ is) stack answers
+          ∙ asked_same program texts below p (j.number answers)
+          (λ z rest. performed program texts below (expr_code program.layout p.frame.unit right ++ instr.Binary o ∷ is) (value (integer z) ∷ stack) rest p)
+          (λ z rest. asked program texts below (and_then (number_demand s right rest) (λ y more. gives (joined_by o z y) more)) p (λ n more. performed program texts below is (value (integer n) ∷ stack) more p))
+          (λ z rest.
+          (number_leaves right m).leaves (instr.Binary o ∷ is) (value (integer z) ∷ stack) rest
+          ∙ asked_same program texts below p (number_demand s right rest)
+          (λ y more. performed program texts below (instr.Binary o ∷ is) (value (integer y) ∷ value (integer z) ∷ stack) more p)
+          (λ y more. performed program texts below is (value (integer (joined_by o z y)) ∷ stack) more p)
+          (λ y more. ap (λ d. asked program texts below d p (λ x left. performed program texts below is (value x ∷ stack) left p)) (c.binary z y more))
+          ∙ sym (asked_then program texts below p (number_demand s right rest) (λ y more. gives (joined_by o z y) more) (λ n more. performed program texts below is (value (integer n) ∷ stack) more p)))
+          ∙ sym (asked_then program texts below p (j.number answers) (λ z rest. and_then (number_demand s right rest) (λ y more. gives (joined_by o z y) more)) (λ n more. performed program texts below is (value (integer n) ∷ stack) more p));
+    };
     joins = λ answers.
         ap (λ d. and_then d (λ chain rest. and_then (number_demand s right rest) (λ y more. gives (λ v. joined_by o (chain v) y) more))) (j.joins answers)
         ∙ twice (j.number answers) (λ z rest. gives (λ v. apply op v z) rest) (λ chain rest. and_then (number_demand s right rest) (λ y more. gives (λ v. joined_by o (chain v) y) more))

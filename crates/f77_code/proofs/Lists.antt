@@ -1,5 +1,5 @@
 -- Where the code of a statement begins.
-use Rattle.std.proofs.Common.{◌≡◌, ℕ, zero, suc, ◌+◌, ◌<◌, ◌∷◌, ◌++◌, ℤ, pos, List, [], length, drop, Option, None, Some, refl, sym, ap, ◌∙◌, arith, slice_get}
+use Rattle.std.proofs.Common.{◌≡◌, ℕ, zero, suc, ◌+◌, ◌<◌, ◌∷◌, ◌++◌, pos, List, [], length, drop, Some, refl, ap, ◌∙◌, arith, slice_get}
 use Rattle.std.specs.Prelude.{slice_index_or}
 use Rattle.std.proofs.Math.Seq.{drop-append-add}
 use Rattle.f77_ast.specs.declared.code.Instr.{Instr}

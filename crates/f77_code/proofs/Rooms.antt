@@ -1,5 +1,5 @@
 -- The code of a statement holds no more operands than it needs, and one.
-use Rattle.std.proofs.Common.{◌≡◌, ℕ, zero, suc, ◌+◌, ◌-◌, ◌≤◌, ◌∷◌, ◌++◌, pos, Bool, true, false, cond, List, [], length, drop, Option, None, Some, IsTrue, refl, sym, ap, subst, ◌∙◌, append_assoc, arith, slice_get}
+use Rattle.std.proofs.Common.{◌≡◌, ℕ, zero, suc, ◌+◌, ◌-◌, ◌≤◌, ◌∷◌, ◌++◌, Bool, true, false, cond, List, [], Option, None, Some, IsTrue, refl, sym, ap, subst, ◌∙◌, append_assoc, arith}
 use Rattle.std.specs.Prelude.{◌&&◌, ◌||◌, sum, sum_by}
 use Rattle.std.specs.List.{list_all}
 use Rattle.std.proofs.lemmas.List.Sums.{sum_by-cons}
@@ -33,16 +33,16 @@ use Rattle.f77_ast.specs.declared.stmt.Stmt.TheFolds.{fold-roll-Stmt}
 use Rattle.f77_ast.specs.declared.stmt.Stmt.TheOpen as stmt_layer
 use Rattle.f77_ast.specs.declared.stmt.Stmt.TheVariants.{rolls-Assign, rolls-Do, rolls-Print}
 use Rattle.f77_structure.specs.Arrays.{array_named}
-use Rattle.f77_structure.specs.HasMeaning.{control_has_meaning, expr_has_meaning, increment_has_meaning, is_integer_variable, is_integer_vector, item_has_meaning, meaning_part, meaning_ref, meaning_step, names_integer, ref_has_meaning, statement_has_meaning}
+use Rattle.f77_structure.specs.HasMeaning.{control_has_meaning, expr_has_meaning, increment_has_meaning, is_integer_variable, is_integer_vector, item_has_meaning, meaning_part, meaning_ref, meaning_step, ref_has_meaning, statement_has_meaning}
 use Rattle.f77_structure.specs.Loops.{loop_with_range_from}
 use Rattle.f77_structure.specs.Needs.{control_need, expr_need, expr_step, item_need, item_step, need_of, option_need, part_step, ref_need, ref_step, stmt_step}
 use Rattle.f77_structure.specs.Statements.{is_executable}
 use Rattle.f77_structure.specs.Values.{is_arithmetic, is_sign}
 use Rattle.f77_meaning.specs.Assign.{Operation, exchanged, is_v, layer_operation, operation_of, operators_at_left, stands_in_product, stands_in_sum}
 use Rattle.f77_meaning.specs.Height.{HoldsAtMost}
-use Rattle.f77_code.specs.Accumulations.{Joining, accumulation_code, chain_code, chain_code_by, chain_code_within, first_code, joining_by, joining_code, last_code, last_code_with}
+use Rattle.f77_code.specs.Accumulations.{Joining, chain_code, chain_code_by, chain_code_within, first_code, joining_by, joining_code, last_code, last_code_with}
 use Rattle.f77_code.specs.Exprs.{code_part, code_ref, code_step, expr_code, place_code, ref_code}
-use Rattle.f77_code.specs.Statements.{assign_code, assigned_code, do_code, increment_code, item_code, items_code, layer_place, own_code, parameters_code, plain_code}
+use Rattle.f77_code.specs.Statements.{assign_code, assigned_code, do_code, increment_code, items_code, layer_place, own_code, parameters_code, plain_code}
 use Rattle.f77_code.proofs.Entities.{HasNumber, found_at}
 use Rattle.f77_code.proofs.Expressions.{first_of_two, second_of_two}
 use Rattle.f77_code.proofs.Prints.{IsPlaced, array_placed}

@@ -1,5 +1,5 @@
 -- The end of an iteration comes to its step.
-use Rattle.std.proofs.Common.{◌≡◌, ℕ, zero, suc, ◌+◌, ◌==◌, ◌∷◌, ◌++◌, Bool, true, false, cond, List, [], length, drop, Option, None, Some, IsTrue, refl, sym, ap, ◌∙◌, append_assoc, arith, slice_get}
+use Rattle.std.proofs.Common.{◌≡◌, ℕ, zero, suc, ◌+◌, ◌==◌, ◌∷◌, ◌++◌, Bool, true, false, cond, List, [], length, drop, None, Some, refl, sym, ap, ◌∙◌, append_assoc, arith, slice_get}
 use Rattle.std.specs.Prelude.{◌&&◌, not}
 use Rattle.std.specs.List.{list_all, prefix_len}
 use Rattle.std.proofs.lemmas.List.Folds.{list_all-append}
@@ -12,7 +12,7 @@ use Rattle.f77_meaning.specs.IsCodeOf.{ends_iteration, from_iteration_end}
 use Rattle.f77_meaning.specs.Perform.{performed, turned_by}
 use Rattle.f77_meaning.specs.Print.{Printing}
 use Rattle.f77_meaning.specs.Process.{ActiveLoop, Frame}
-use Rattle.f77_meaning.specs.Step.{Move, increment_move}
+use Rattle.f77_meaning.specs.Step.{increment_move}
 use Rattle.f77_code.specs.Statements.{ends_at, turn_if, turns_code}
 use Rattle.f77_code.proofs.Expressions.{first_of_two, second_of_two}
 use Rattle.f77_code.proofs.Quiet.{Turnless}
@@ -52,10 +52,12 @@ module _ (program : Program) (texts : List (List ℕ)) (below : List Frame) (p :
     pub turns : performed program texts below code [] [] p ≡ Some (increment_move program p.frame below p.line p.frame.active)
 
   its_own : (ordinal : ℕ) (is : List Instr) → active.ordinal ≡ ordinal → Turns (instr.Next ordinal ∷ is)
-  its_own ordinal is e = record { turns =
-    ap (λ a. turned_by program texts below ordinal a p (performed program texts below is [] [] p)) innermost
-    ∙ ap (λ b. cond b (Some (increment_move program p.frame below p.line (active ∷ outer))) (performed program texts below is [] [] p)) (same_number active.ordinal ordinal e)
-    ∙ ap (λ a. Some (increment_move program p.frame below p.line a)) (sym innermost) }
+  its_own ordinal is e = record {
+    turns =
+        ap (λ a. turned_by program texts below ordinal a p (performed program texts below is [] [] p)) innermost
+        ∙ ap (λ b. cond b (Some (increment_move program p.frame below p.line (active ∷ outer))) (performed program texts below is [] [] p)) (same_number active.ordinal ordinal e)
+        ∙ ap (λ a. Some (increment_move program p.frame below p.line a)) (sym innermost);
+  }
 
   another : (ordinal : ℕ) (is : List Instr) → Turns is → Turns (instr.Next ordinal ∷ is)
   another ordinal is h = record { turns = ap (λ a. turned_by program texts below ordinal a p (performed program texts below is [] [] p)) innermost ∙ by (active.ordinal == ordinal) ∙ ap (λ a. Some (increment_move program p.frame below p.line a)) (sym innermost) }
@@ -92,9 +94,11 @@ module _ (program : Program) (texts : List (List ℕ)) (below : List Frame) (p :
   first_turn : (code rest : List Instr) → list_all ends_iteration code ≡ true → ((is : List Instr) → Turns (code ++ is)) → Turns (from_iteration_end (code ++ rest))
   first_turn [] rest all h = absurd (let none : None ≡ Some (increment_move program p.frame below p.line p.frame.active) = (h []).turns in cc)
   first_turn (i ∷ code) rest all h =
-      record { turns =
-        ap (λ b. performed program texts below (drop (cond (not b) (1 + prefix_len (λ i. not (ends_iteration i)) (code ++ rest)) 0) (i ∷ code ++ rest)) [] [] p) (first_of_two (ends_iteration i) (list_all ends_iteration code) all)
-        ∙ (h rest).turns }
+      record {
+        turns =
+            ap (λ b. performed program texts below (drop (cond (not b) (1 + prefix_len (λ i. not (ends_iteration i)) (code ++ rest)) 0) (i ∷ code ++ rest)) [] [] p) (first_of_two (ends_iteration i) (list_all ends_iteration code) all)
+            ∙ (h rest).turns;
+      }
 
   pub turn_found : (loops : List Loop) (number place : ℕ) (loop : Loop) (rest : List Instr) → slice_get loops place ≡ Some loop → ends_at number loop ≡ true → active.ordinal ≡ loop.ordinal → Turns (from_iteration_end (turns_code loops number ++ rest))
   turn_found loops number place loop rest e ends o = first_turn (turns_code loops number) rest (turns_end loops number) (λ is. found_turn loops number place loop is e ends o)

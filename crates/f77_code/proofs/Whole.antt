@@ -1,6 +1,6 @@
 -- The code of a unit is its code.
-use Rattle.std.proofs.Common.{◌≡◌, ℕ, zero, suc, ◌+◌, ◌-◌, ◌<◌, ◌≤◌, ◌==◌, ◌∷◌, ◌++◌, ℤ, pos, Bool, true, false, cond, List, [], length, drop, Option, None, Some, IsTrue, refl, sym, ap, subst, ◌∙◌, append_assoc, arith, slice_get, eqb-true}
-use Rattle.std.specs.Prelude.{IfOk, Result, Ok, Err, slice_index_or, unsigned_abs}
+use Rattle.std.proofs.Common.{◌≡◌, ℕ, zero, suc, ◌+◌, ◌-◌, ◌≤◌, ◌==◌, ◌∷◌, ◌++◌, pos, Bool, true, false, cond, List, [], length, drop, Some, IsTrue, refl, sym, ap, subst, ◌∙◌, append_assoc, arith, slice_get, eqb-true}
+use Rattle.std.specs.Prelude.{IfOk, Result, Ok, Err, unsigned_abs}
 use Rattle.std.specs.List.{list_all}
 use Rattle.f77_ast.proofs.Loops.{loop_at-numbered}
 use Rattle.f77_ast.specs.Loop.{IsNumbered, loop_at}
@@ -12,7 +12,7 @@ use Rattle.f77_ast.specs.declared.program.Loop.{Loop}
 use Rattle.f77_ast.specs.declared.program.Program.{Program}
 use Rattle.f77_ast.specs.declared.stmt.Stmt.{Stmt}
 use Rattle.f77_ast.specs.declared.stmt.Stmt as stmt
-use Rattle.f77_structure.specs.HasMeaning.{control_has_meaning, expr_has_meaning, item_has_meaning, ref_has_meaning, statement_has_meaning}
+use Rattle.f77_structure.specs.HasMeaning.{expr_has_meaning, item_has_meaning, ref_has_meaning, statement_has_meaning}
 use Rattle.f77_structure.specs.Labels.{distance_to}
 use Rattle.f77_structure.specs.Loops.{loop_with_range_from, loops_of}
 use Rattle.f77_structure.specs.Ranges.{IsDo, terminal_at}
@@ -22,15 +22,13 @@ use Rattle.f77_structure.proofs.LoopLemmas.{loops_of-numbered}
 use Rattle.f77_structure.proofs.Loops.{range_of_loop}
 use Rattle.f77_structure.specs.Needs.{need_of}
 use Rattle.f77_meaning.specs.Height.{FallBelow, HoldsAtMost, turn_ordinals}
-use Rattle.f77_meaning.specs.IsCodeOf.{IsAt, IsCodeOf, IsTurning, after_item_ends, code_at, from_iteration_end, item_count}
+use Rattle.f77_meaning.specs.IsCodeOf.{IsCodeOf, after_item_ends, code_at, from_iteration_end, item_count}
 use Rattle.f77_meaning.specs.Perform.{performed}
-use Rattle.f77_meaning.specs.Print.{Printing, after_items, printed_of}
+use Rattle.f77_meaning.specs.Print.{Printing}
 use Rattle.f77_meaning.specs.Process.{ActiveLoop, Frame, listed_of}
-use Rattle.f77_meaning.specs.Step.{Move, increment_move, loop_of_do, print_move, statement_move}
-use Rattle.f77_meaning.specs.Demand.{setting_of}
-use Rattle.f77_code.specs.Statements.{ends_at, executed_code, items_code, own_code, statement_code, turns_code}
-use Rattle.f77_code.specs.Units.{instrs_from, nexts_from, starts_from, unit_code}
-use Rattle.f77_code.proofs.Entities.{below_length}
+use Rattle.f77_meaning.specs.Step.{increment_move, loop_of_do, statement_move}
+use Rattle.f77_code.specs.Statements.{items_code, own_code, statement_code, turns_code}
+use Rattle.f77_code.specs.Units.{instrs_from, unit_code}
 use Rattle.f77_code.proofs.Expressions.{first_of_two, second_of_two}
 use Rattle.f77_code.proofs.Lists.{Begins, begins, next_at, starts_length}
 use Rattle.f77_code.proofs.Prints.{items_steps}
@@ -38,7 +36,7 @@ use Rattle.f77_code.proofs.Quiet.{items_passed, own_turnless}
 use Rattle.f77_code.proofs.Falling.{falls}
 use Rattle.f77_code.proofs.Rooms.{own_room}
 use Rattle.f77_code.proofs.Steps.{assign_steps, do_steps}
-use Rattle.f77_code.proofs.Turning.{Turns, own_passed, turn_found}
+use Rattle.f77_code.proofs.Turning.{own_passed, turn_found}
 
 -- a loop that is found is in the list, and its range begins with the statement
 record InList (loops : List Loop) (number : ℕ) (loop : Loop) : Type 0 where

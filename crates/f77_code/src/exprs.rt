@@ -38,7 +38,12 @@ pub fn add_expr(layout: &Layout, unit: u32, expr: &Expr, code: &mut Instrs) -> R
 
 /// Adds the code of what a reference stands for: it leaves an entity or the place of an element on the stack.
 #[cycle(exprs)]
-pub fn add_ref(layout: &Layout, unit: u32, reference: &Ref, code: &mut Instrs) -> Result<(), NoMemory>
+pub fn add_ref(
+    layout: &Layout,
+    unit: u32,
+    reference: &Ref,
+    code: &mut Instrs,
+) -> Result<(), NoMemory>
     requires { length layout.now.entities ≤ 2 ^ 32 }
     ensures { OnOk result (code.new ≡ code.old ++ ref_code layout.now unit reference.now) }
 {

@@ -1,5 +1,5 @@
 -- That code is the code of a unit, said by what it does.
-use Rattle.std.specs.Prelude.{◌≡◌, ℕ, zero, suc, ◌+◌, ◌<◌, ◌≤◌, ℤ, pos, Bool, true, false, not, List, [], ◌∷◌, drop, length, Option, None, Some, IsTrue, unsigned_abs, slice_get, slice_index_or}
+use Rattle.std.specs.Prelude.{◌≡◌, ℕ, zero, suc, ◌+◌, ◌<◌, ◌≤◌, pos, Bool, true, false, not, List, [], ◌∷◌, drop, length, Some, IsTrue, unsigned_abs, slice_get, slice_index_or}
 use Rattle.std.specs.List.{prefix_len}
 use Rattle.f77_ast.specs.declared.code.Code.{Code}
 use Rattle.f77_ast.specs.declared.code.Instr.{Instr}
