@@ -1,7 +1,5 @@
 -- The code of chains, by the outermost operator.
-use Rattle.std.proofs.Common.{◌≡◌, ◌++◌, ℕ, zero, suc, Bool, true, cond, List, [], ◌∷◌, Option, None, Some, refl, ap, ◌∙◌}
-use Rattle.std.specs.Option.{option_map}
-use Rattle.f77_ast.specs.declared.code.Instr.TheVariants.{Binary}
+use Rattle.std.proofs.Common.{◌≡◌, ℕ, zero, suc, Bool, None, Some, refl, ap, ◌∙◌}
 use Rattle.f77_ast.specs.declared.expr.Expr.{Expr}
 use Rattle.f77_ast.specs.declared.expr.Op.{Op}
 use Rattle.f77_ast.specs.declared.expr.Ref.{Ref}

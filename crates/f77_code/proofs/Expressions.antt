@@ -1,5 +1,5 @@
 -- The code of an expression leaves its value, and that of a reference its place.
-use Rattle.std.proofs.Common.{◌≡◌, ℕ, ℤ, pos, Bool, true, false, cond, List, [], ◌∷◌, ◌++◌, map, Option, None, Some, IsTrue, refl, sym, ap, subst, ◌∙◌, append_assoc, slice_get}
+use Rattle.std.proofs.Common.{◌≡◌, ℕ, ℤ, Bool, true, false, cond, List, [], ◌∷◌, ◌++◌, Option, None, Some, IsTrue, refl, sym, ap, subst, ◌∙◌, append_assoc, slice_get}
 use Rattle.std.specs.Prelude.{◌&&◌}
 use Rattle.f77_ast.specs.Entity.{entity_in, is_named, number_in}
 use Rattle.f77_ast.specs.declared.code.Instr.{Instr}
@@ -15,16 +15,16 @@ use Rattle.f77_ast.specs.declared.program.Entity.{Entity}
 use Rattle.f77_ast.specs.declared.program.Place.{Place}
 use Rattle.f77_ast.specs.declared.program.Place.TheVariants.{Stored, Dummy, Constant}
 use Rattle.f77_ast.specs.declared.program.Program.{Program}
-use Rattle.f77_structure.specs.HasMeaning.{expr_has_meaning, is_integer_variable, is_integer_vector, is_whole, meaning_part, meaning_ref, meaning_step, names_integer, ref_has_meaning}
+use Rattle.f77_structure.specs.HasMeaning.{expr_has_meaning, is_integer_variable, is_integer_vector, meaning_part, meaning_ref, meaning_step, ref_has_meaning}
 use Rattle.f77_structure.specs.Storage.{address_of_element, address_of_variable, is_scalar, is_stored, is_vector, stored_at}
-use Rattle.f77_structure.specs.Values.{binary_of, integer, is_arithmetic, is_integer_kind, is_sign, truth, unary_of}
-use Rattle.f77_meaning.specs.Demand.{Bounds, Demand, Evaluation, Located, Location, Setting, Term, and_then, bounds_of, demand_of, expr_step, gives, located, located_by, located_part, location_of, number_of, operated, part_step, place_by, place_of, ref_step, setting_of, stored, term, term_of, value_at}
+use Rattle.f77_structure.specs.Values.{binary_of, is_arithmetic, is_integer_kind, is_sign, unary_of}
+use Rattle.f77_meaning.specs.Demand.{Bounds, Evaluation, Located, Location, Setting, Term, and_then, bounds_of, demand_of, expr_step, gives, located, located_by, location_of, number_of, operated, part_step, place_by, place_of, ref_step, setting_of, stored, term, term_of, value_at}
 use Rattle.f77_meaning.specs.Operands.{Stack, entity, place, value}
 use Rattle.f77_meaning.specs.Perform.{asked, given, performed, with_found}
 use Rattle.f77_meaning.specs.Print.{Printing}
 use Rattle.f77_meaning.specs.Process.{Frame}
 use Rattle.f77_code.specs.Exprs.{code_part, code_ref, code_step, expr_code, place_code, ref_code}
-use Rattle.f77_code.proofs.Asking.{IsAtPlace, LeavesPlace, LeavesValue, asked_same, asked_then, asked_where, with_place_there}
+use Rattle.f77_code.proofs.Asking.{LeavesPlace, LeavesValue, asked_same, asked_then, asked_where, with_place_there}
 use Rattle.f77_code.proofs.Entities.{HasNumber, found_at}
 
 -- tests

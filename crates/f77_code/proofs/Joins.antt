@@ -11,7 +11,7 @@ use Rattle.hyb_base.proofs.Reductions.{operators_reduce}
 use Rattle.f77_ast.specs.declared.code.Instr.{Instr}
 use Rattle.f77_ast.specs.declared.code.Instr.TheVariants as instr
 use Rattle.f77_ast.specs.declared.expr.Expr.{Expr, out-Expr, roll-out-Expr}
-use Rattle.f77_ast.specs.declared.expr.Expr.TheFolds.{fold-Part, fold-roll-Expr, map-Expr}
+use Rattle.f77_ast.specs.declared.expr.Expr.TheFolds.{fold-roll-Expr, map-Expr}
 use Rattle.f77_ast.specs.declared.expr.Expr.TheOpen.{Expr-F, Part-F, Ref-F}
 use Rattle.f77_ast.specs.declared.expr.Expr.TheOpen as layer
 use Rattle.f77_ast.specs.declared.expr.Op.{Op}
@@ -20,18 +20,18 @@ use Rattle.f77_ast.specs.declared.expr.Part.{Part}
 use Rattle.f77_ast.specs.declared.expr.Ref.{Ref}
 use Rattle.f77_ast.specs.declared.program.Program.{Program}
 use Rattle.f77_structure.specs.HasMeaning.{expr_has_meaning, meaning_part, meaning_ref, meaning_step, ref_has_meaning}
-use Rattle.f77_structure.specs.Values.{Value, binary_of, integer, is_arithmetic, unary_of}
+use Rattle.f77_structure.specs.Values.{binary_of, integer, is_arithmetic}
 use Rattle.f77_meaning.specs.Assign.{Accumulation, Held, Operand, Operation, accumulates_by, accumulation_of, chain_by, chain_of, chain_within, exchanged, held_first, held_last, held_next, is_v, joined_by, last_by, last_with, layer_operation, operation_of, operators_at_left, stands_in_product, stands_in_sum}
-use Rattle.f77_meaning.specs.Demand.{Demand, gives, wants, calls, fails, and_then, Evaluation, Setting, demand_of, number_demand, number_of, operated, setting_of}
+use Rattle.f77_meaning.specs.Demand.{gives, and_then, Setting, demand_of, number_demand, number_of, operated, setting_of}
 use Rattle.f77_meaning.specs.Operands.{Stack, value}
 use Rattle.f77_meaning.specs.Perform.{asked, performed}
 use Rattle.f77_meaning.specs.Print.{Printing}
 use Rattle.f77_meaning.specs.Process.{Frame}
 use Rattle.f77_code.specs.Accumulations.{Joining, chain_code, chain_code_by, chain_code_within, first_code, joining_by, joining_code, last_code, last_code_with}
 use Rattle.f77_code.specs.Exprs.{expr_code}
-use Rattle.f77_code.proofs.Asking.{LeavesValue, asked_same, asked_then}
+use Rattle.f77_code.proofs.Asking.{asked_same, asked_then}
 use Rattle.f77_code.proofs.Expressions.{expr_leaves, first_of_two, second_of_two}
-use Rattle.f77_code.proofs.Numbers.{GivesNumber, expr_gives, twice}
+use Rattle.f77_code.proofs.Numbers.{expr_gives, twice}
 
 -- an operator of a chain, on two numbers and on v
 record Chains (op : RedOp) (o : Op) : Type 0 where

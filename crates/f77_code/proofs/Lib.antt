@@ -2,11 +2,13 @@ pub mod Asking
 pub mod Chains
 pub mod Entities
 pub mod Expressions
+pub mod Falling
 pub mod Joins
 pub mod Lists
 pub mod Numbers
 pub mod Prints
 pub mod Quiet
+pub mod Rooms
 pub mod Steps
 pub mod Turning
 pub mod Turns

@@ -1,5 +1,5 @@
 -- Where the code of a statement begins.
-use Rattle.std.proofs.Common.{◌≡◌, ℕ, zero, suc, ◌+◌, ◌<◌, ◌∷◌, ◌++◌, ℤ, pos, List, [], length, drop, Option, None, Some, refl, sym, ap, ◌∙◌, arith, slice_get}
+use Rattle.std.proofs.Common.{◌≡◌, ℕ, zero, suc, ◌+◌, ◌<◌, ◌∷◌, ◌++◌, pos, List, [], length, drop, Some, refl, ap, ◌∙◌, arith, slice_get}
 use Rattle.std.specs.Prelude.{slice_index_or}
 use Rattle.std.proofs.Math.Seq.{drop-append-add}
 use Rattle.f77_ast.specs.declared.code.Instr.{Instr}
@@ -14,9 +14,9 @@ module _ (loops : List Loop) (layout : Layout) (unit : ℕ) where
   -- the code of the statement at a place, and what comes after it
   pub record Begins (number before at : ℕ) (listing : List Listed) (listed : Listed) : Type 0 where
     pub offset : ℕ
-    pub rest : List Instr
+    pub following : List Listed
     pub start : slice_index_or (starts_from loops layout unit number before listing) at (pos 0) ≡ pos (before + offset)
-    pub code : drop offset (instrs_from loops layout unit number listing) ≡ statement_code loops layout unit (number + at) listed.stmt ++ rest
+    pub code : drop offset (instrs_from loops layout unit number listing) ≡ statement_code loops layout unit (number + at) listed.stmt ++ instrs_from loops layout unit (suc (number + at)) following
 
   pub begins : (number before at : ℕ) (listing : List Listed) (listed : Listed) → slice_get listing at ≡ Some listed → Begins number before at listing listed
   begins number before at [] listed e = absurd (cc)
@@ -24,9 +24,9 @@ module _ (loops : List Loop) (layout : Layout) (unit : ℕ) where
       let same : x ≡ listed = cc in
       record {
         offset = 0;
-        rest = instrs_from loops layout unit (suc number) xs;
+        following = xs;
         start = ap pos (none_more before);
-        code = (λ i. statement_code loops layout unit (none_more number i) (same i).stmt ++ instrs_from loops layout unit (suc number) xs);
+        code = (λ i. statement_code loops layout unit (none_more number i) (same i).stmt ++ instrs_from loops layout unit (suc (none_more number i)) xs);
       }
     where
       none_more : (n : ℕ) → n ≡ n + 0
@@ -36,12 +36,12 @@ module _ (loops : List Loop) (layout : Layout) (unit : ℕ) where
       let b : Begins (suc number) (before + length here) at xs listed = begins (suc number) (before + length here) at xs listed e in
       record {
         offset = length here + b.offset;
-        rest = b.rest;
+        following = b.following;
         start = b.start ∙ ap pos (grouped before (length here) b.offset);
         code =
             drop-append-add here (instrs_from loops layout unit (suc number) xs) b.offset
             ∙ b.code
-            ∙ ap (λ n. statement_code loops layout unit n listed.stmt ++ b.rest) (moved number at);
+            ∙ ap (λ n. statement_code loops layout unit n listed.stmt ++ instrs_from loops layout unit (suc n) b.following) (moved number at);
       }
     where
       grouped : (a b c : ℕ) → a + b + c ≡ a + (b + c)

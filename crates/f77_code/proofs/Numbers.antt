@@ -1,5 +1,5 @@
 -- Expressions that have a meaning give numbers.
-use Rattle.std.proofs.Common.{◌≡◌, ℕ, ℤ, pos, Bool, true, false, cond, List, [], ◌∷◌, Option, None, Some, IsTrue, refl, sym, ap, subst, ◌∙◌}
+use Rattle.std.proofs.Common.{◌≡◌, ℕ, ℤ, Bool, false, List, [], ◌∷◌, Option, None, Some, IsTrue, refl, sym, ap, subst, ◌∙◌}
 use Rattle.std.specs.Prelude.{◌&&◌}
 use Rattle.hyb_base.specs.Wrap.{power_of, quotient_of}
 use Rattle.f77_ast.specs.Entity.{entity_in}
@@ -17,12 +17,12 @@ use Rattle.f77_ast.specs.declared.expr.Ref.{Ref}
 use Rattle.f77_ast.specs.declared.program.Entity.{Entity}
 use Rattle.f77_ast.specs.declared.program.Place.{Place}
 use Rattle.f77_ast.specs.declared.program.Place.TheVariants.{Stored, Dummy, Constant}
-use Rattle.f77_structure.specs.HasMeaning.{expr_has_meaning, is_integer_variable, is_integer_vector, meaning_part, meaning_ref, meaning_step, names_integer, ref_has_meaning}
+use Rattle.f77_structure.specs.HasMeaning.{expr_has_meaning, is_integer_vector, meaning_part, meaning_ref, meaning_step, names_integer, ref_has_meaning}
 use Rattle.f77_structure.specs.Storage.{address_of_element, address_of_variable, is_scalar, is_stored, is_vector}
-use Rattle.f77_structure.specs.Values.{Operated, Value, binary_of, breaks, chars, integer, is_arithmetic, is_integer_kind, is_sign, means_nothing, number_or_zero_divisor, truth, unary_of, value_of_units, yields}
-use Rattle.f77_meaning.specs.Demand.{Bounds, Demand, Evaluation, Located, Location, Setting, Term, and_then, bounds_of, calls, cells_from, demand_of, expr_step, fails, gives, located, located_by, location_of, number_of, operated, part_step, place_by, place_of, ref_step, stored, term_of, value_at, value_of_bound, wants, width}
-use Rattle.f77_meaning.specs.Process.{Binding, placed, valued, unvalued}
-use Rattle.f77_code.proofs.Expressions.{first_of_two, second_of_two}
+use Rattle.f77_structure.specs.Values.{Value, binary_of, chars, integer, is_arithmetic, is_integer_kind, is_sign, number_or_zero_divisor, truth, unary_of, value_of_units}
+use Rattle.f77_meaning.specs.Demand.{Bounds, Demand, Evaluation, Location, Setting, Term, and_then, bounds_of, calls, cells_from, demand_of, expr_step, fails, gives, located, located_by, location_of, number_of, operated, part_step, place_by, ref_step, stored, term_of, value_at, value_of_bound, wants, width}
+use Rattle.f77_meaning.specs.Process.{placed}
+use Rattle.f77_code.proofs.Expressions.{first_of_two}
 
 -- a value is the number that it is
 abbrev as_integer : Value → List ℤ → Demand Value

@@ -1,7 +1,7 @@
 -- The code of a PRINT comes to its step.
 use Rattle.std.proofs.Common.{◌≡◌, ℕ, zero, suc, ◌-◌, ◌∷◌, ◌++◌, ℤ, Bool, true, false, cond, List, [], Option, None, Some, IsTrue, refl, sym, ap, subst, ◌∙◌, append_assoc, slice_get}
-use Rattle.std.specs.Prelude.{◌&&◌, ◌||◌}
-use Rattle.std.specs.List.{flat_map, list_all}
+use Rattle.std.specs.Prelude.{◌||◌}
+use Rattle.std.specs.List.{list_all}
 use Rattle.std.specs.Option.{is_some}
 use Rattle.f77_ast.specs.Entity.{entity_in, is_named, number_in}
 use Rattle.f77_ast.specs.declared.code.Instr.{Instr}
@@ -11,24 +11,22 @@ use Rattle.f77_ast.specs.declared.expr.Expr.TheFolds.{fold-Part, fold-roll-Expr,
 use Rattle.f77_ast.specs.declared.expr.Expr.TheOpen.{Expr-F, Part-F, Ref-F}
 use Rattle.f77_ast.specs.declared.expr.Expr.TheOpen as layer
 use Rattle.f77_ast.specs.declared.expr.Part.{Part}
-use Rattle.f77_ast.specs.declared.expr.Ref.{Ref, out-Ref, roll-Ref, roll-out-Ref}
+use Rattle.f77_ast.specs.declared.expr.Ref.{Ref, out-Ref, roll-out-Ref}
 use Rattle.f77_ast.specs.declared.program.Entity.{Entity}
 use Rattle.f77_ast.specs.declared.program.Program.{Program}
 use Rattle.f77_ast.specs.declared.stmt.Item.{Item}
 use Rattle.f77_ast.specs.declared.stmt.Item as item
-use Rattle.f77_structure.specs.Arrays.{array_named, array_of_ref, array_part, array_ref, array_step, if_array, named_alone}
+use Rattle.f77_structure.specs.Arrays.{array_named, array_of_ref, array_part, array_ref, array_step, if_array}
 use Rattle.f77_structure.specs.HasMeaning.{expr_has_meaning, is_integer_vector, item_has_meaning}
 use Rattle.f77_structure.specs.Storage.{elements_of, is_vector}
 use Rattle.f77_structure.specs.Values.{Value}
-use Rattle.f77_meaning.specs.Demand.{Demand, gives, wants, calls, fails, Setting, demand_of, setting_of}
-use Rattle.f77_meaning.specs.Operands.{entity, value}
-use Rattle.f77_meaning.specs.Perform.{asked, elements_shown, leaving_none, performed, shown, with_line}
-use Rattle.f77_meaning.specs.Print.{Printed, Printing, asks, enters, whole, stops, after_array_or_value, after_elements, after_item, after_items, after_value, element_after, next_cell, next_item, printed_of, text_of, with_text, within_limit}
+use Rattle.f77_meaning.specs.Demand.{Demand, gives, wants, calls, fails, demand_of, setting_of}
+use Rattle.f77_meaning.specs.Perform.{asked, elements_shown, performed, shown, with_line}
+use Rattle.f77_meaning.specs.Print.{Printed, Printing, asks, enters, whole, stops, after_array_or_value, after_elements, after_items, after_value, element_after, next_cell, next_item, text_of, with_text, within_limit}
 use Rattle.f77_meaning.specs.Process.{Frame, with_done}
 use Rattle.f77_meaning.specs.Step.{Move, print_move}
 use Rattle.f77_code.specs.Exprs.{code_part, code_ref, code_step, expr_code, place_code, ref_code}
-use Rattle.f77_code.specs.Statements.{item_code, items_code, layer_place, plain_code}
-use Rattle.f77_code.proofs.Asking.{LeavesValue, asked_same}
+use Rattle.f77_code.specs.Statements.{items_code, layer_place, plain_code}
 use Rattle.f77_code.proofs.Entities.{HasNumber, found_at}
 use Rattle.f77_code.proofs.Expressions.{entity_left, expr_leaves, first_of_two, second_of_two}
 
@@ -86,7 +84,7 @@ module _ (program : Program) (unit : ℕ) where
   layer_placed (layer.Paren x) array e = absurd (cc)
 
   -- the array that an expression names
-  array_placed : (e : Expr) (array : Entity) → array_named program.layout unit e ≡ Some array → IsPlaced program.layout.entities (layer_place program.layout unit (out-Expr e)) array
+  pub array_placed : (e : Expr) (array : Entity) → array_named program.layout unit e ≡ Some array → IsPlaced program.layout.entities (layer_place program.layout unit (out-Expr e)) array
   array_placed e array h =
       layer_placed (out-Expr e) array
       (sym (fold-roll-Expr (Option Entity) (Unit {0}) (Option Entity) array_step array_part (array_ref program.layout unit) (out-Expr e)) ∙ ap (array_named program.layout unit) (roll-out-Expr e) ∙ h)

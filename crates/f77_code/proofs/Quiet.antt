@@ -1,7 +1,7 @@
 -- No instruction of an expression ends an item or an iteration.
 use Rattle.std.proofs.Common.{◌≡◌, ℕ, zero, suc, ◌+◌, ◌≤◌, ◌∷◌, ◌++◌, Bool, true, false, cond, List, [], length, drop, Option, None, Some, IsTrue, refl, sym, ap, subst, ◌∙◌, append_assoc, arith}
 use Rattle.std.specs.Prelude.{◌&&◌, not}
-use Rattle.std.specs.List.{flat_map, list_all, prefix_len}
+use Rattle.std.specs.List.{list_all, prefix_len}
 use Rattle.std.specs.Option.{is_some, option_map, option_or}
 use Rattle.std.proofs.Math.Seq.{drop-append_seam}
 use Rattle.std.proofs.lemmas.List.Folds.{list_all-append}
@@ -31,9 +31,9 @@ use Rattle.f77_structure.specs.HasMeaning.{item_has_meaning}
 use Rattle.f77_structure.specs.Loops.{loop_with_range_from}
 use Rattle.f77_meaning.specs.Assign.{Operation, exchanged, is_v, operation_of, operators_at_left, stands_in_product, stands_in_sum}
 use Rattle.f77_meaning.specs.IsCodeOf.{after_item_end, after_item_ends, ends_item, ends_iteration, from_iteration_end}
-use Rattle.f77_code.specs.Accumulations.{Joining, accumulation_code, chain_code, chain_code_by, chain_code_within, first_code, joining_by, joining_code, last_code, last_code_with}
+use Rattle.f77_code.specs.Accumulations.{Joining, chain_code, chain_code_by, chain_code_within, first_code, joining_by, joining_code, last_code, last_code_with}
 use Rattle.f77_code.specs.Exprs.{code_part, code_ref, code_step, expr_code, place_code, ref_code}
-use Rattle.f77_code.specs.Statements.{assign_code, assigned_code, do_code, increment_code, item_code, items_code, layer_place, own_code, parameters_code, plain_code}
+use Rattle.f77_code.specs.Statements.{assign_code, assigned_code, do_code, increment_code, items_code, layer_place, own_code, parameters_code, plain_code}
 use Rattle.f77_code.proofs.Expressions.{first_of_two, second_of_two}
 
 -- an instruction within an item

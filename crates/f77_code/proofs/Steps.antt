@@ -1,45 +1,34 @@
 -- The code of a statement comes to its step.
-use Rattle.std.proofs.Common.{◌≡◌, ℕ, zero, suc, ◌-◌, ◌∷◌, ◌++◌, ℤ, pos, Bool, true, false, cond, List, [], Option, None, Some, IsTrue, refl, sym, ap, subst, ◌∙◌, append_assoc, slice_get}
-use Rattle.std.specs.Prelude.{◌&&◌, ◌||◌}
-use Rattle.std.specs.List.{list_all}
+use Rattle.std.proofs.Common.{◌≡◌, ℕ, ◌∷◌, ◌++◌, ℤ, Bool, List, [], Option, None, Some, IsTrue, refl, sym, ap, ◌∙◌, append_assoc}
+use Rattle.std.specs.Prelude.{◌&&◌}
 use Rattle.hyb_base.specs.Reduction.{apply}
 use Rattle.f77_ast.specs.Entity.{entity_in, is_named, number_in}
 use Rattle.f77_ast.specs.Loop.{loop_at}
 use Rattle.f77_ast.specs.declared.code.Instr.{Instr}
 use Rattle.f77_ast.specs.declared.code.Instr.TheVariants as instr
-use Rattle.f77_ast.specs.declared.expr.Expr.{Expr, out-Expr, roll-out-Expr}
-use Rattle.f77_ast.specs.declared.expr.Expr.TheFolds.{fold-roll-Expr, fold-roll-Ref, map-Expr, map-Ref}
-use Rattle.f77_ast.specs.declared.expr.Expr.TheOpen.{Expr-F, Part-F, Ref-F}
-use Rattle.f77_ast.specs.declared.expr.Expr.TheOpen as layer
-use Rattle.f77_ast.specs.declared.expr.Part.{Part}
+use Rattle.f77_ast.specs.declared.expr.Expr.{Expr}
 use Rattle.f77_ast.specs.declared.expr.Ref.{Ref}
 use Rattle.f77_ast.specs.declared.program.Entity.{Entity}
 use Rattle.f77_ast.specs.declared.program.Loop.{Loop}
 use Rattle.f77_ast.specs.declared.program.Program.{Program}
-use Rattle.f77_ast.specs.declared.stmt.Item.{Item}
-use Rattle.f77_ast.specs.declared.stmt.Item as item
 use Rattle.f77_ast.specs.declared.stmt.LoopControl.{LoopControl}
-use Rattle.f77_ast.specs.declared.stmt.Stmt.{Stmt}
-use Rattle.f77_ast.specs.declared.stmt.Stmt as stmt
-use Rattle.f77_structure.specs.Arrays.{array_named}
-use Rattle.f77_structure.specs.HasMeaning.{control_has_meaning, expr_has_meaning, increment_has_meaning, is_integer_variable, is_integer_vector, item_has_meaning, ref_has_meaning}
-use Rattle.f77_structure.specs.Storage.{elements_of, is_scalar, is_stored}
-use Rattle.f77_structure.specs.Values.{Value, integer, is_integer_kind}
-use Rattle.f77_meaning.specs.Assign.{Accumulation, Written, accumulate_at, accumulated, accumulation_of, plainly, written_by, written_of}
-use Rattle.f77_meaning.specs.Demand.{Demand, gives, wants, calls, fails, and_then, Evaluation, Located, Location, Setting, demand_of, located, location_of, number_demand, setting_of}
+use Rattle.f77_structure.specs.HasMeaning.{control_has_meaning, expr_has_meaning, increment_has_meaning, is_integer_variable, ref_has_meaning}
+use Rattle.f77_structure.specs.Values.{integer}
+use Rattle.f77_meaning.specs.Assign.{Accumulation, Written, accumulate_at, accumulation_of, plainly, written_by, written_of}
+use Rattle.f77_meaning.specs.Demand.{Demand, gives, wants, calls, fails, and_then, Located, Setting, demand_of, located, location_of, number_demand, setting_of}
 use Rattle.f77_meaning.specs.Do.{Begun, Parameters, begun_of, begun_with, increment_of, parameters_of}
-use Rattle.f77_meaning.specs.Operands.{Operand, Stack, entity, value, with_place}
-use Rattle.f77_meaning.specs.Perform.{asked, begun_by, given, leaving_none, performed, stored_by, accumulated_by}
+use Rattle.f77_meaning.specs.Operands.{Operand, entity, value}
+use Rattle.f77_meaning.specs.Perform.{asked, given, leaving_none, performed, stored_by, accumulated_by}
 use Rattle.f77_meaning.specs.Print.{Printing}
 use Rattle.f77_meaning.specs.Process.{Frame}
-use Rattle.f77_meaning.specs.Step.{Move, begin_move, do_move, write_move}
-use Rattle.f77_code.specs.Accumulations.{Joining, accumulation_code, joining_code}
+use Rattle.f77_meaning.specs.Step.{begin_move, do_move, write_move}
+use Rattle.f77_code.specs.Accumulations.{Joining, joining_code}
 use Rattle.f77_code.specs.Exprs.{expr_code, ref_code}
 use Rattle.f77_code.specs.Statements.{assign_code, assigned_code, do_code, increment_code, parameters_code}
-use Rattle.f77_code.proofs.Asking.{IsAtPlace, LeavesPlace, LeavesValue, asked_same, asked_then, asked_where, with_place_there}
+use Rattle.f77_code.proofs.Asking.{IsAtPlace, LeavesPlace, asked_same, asked_where, with_place_there}
 use Rattle.f77_code.proofs.Entities.{HasNumber, found_at}
 use Rattle.f77_code.proofs.Expressions.{entity_left, expr_leaves, first_of_two, ref_leaves, second_of_two}
-use Rattle.f77_code.proofs.Joins.{IfJoining, Joins, JoinsBy, LeavesNumber, accumulation_joins, number_leaves}
+use Rattle.f77_code.proofs.Joins.{IfJoining, LeavesNumber, accumulation_joins, number_leaves}
 use Rattle.f77_code.proofs.Numbers.{twice}
 
 module _ (program : Program) (texts : List (List ℕ)) (below : List Frame) (p : Printing) where

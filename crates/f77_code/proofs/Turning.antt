@@ -1,5 +1,5 @@
 -- The end of an iteration comes to its step.
-use Rattle.std.proofs.Common.{◌≡◌, ℕ, zero, suc, ◌+◌, ◌==◌, ◌∷◌, ◌++◌, Bool, true, false, cond, List, [], length, drop, Option, None, Some, IsTrue, refl, sym, ap, ◌∙◌, append_assoc, arith, slice_get}
+use Rattle.std.proofs.Common.{◌≡◌, ℕ, zero, suc, ◌+◌, ◌==◌, ◌∷◌, ◌++◌, Bool, true, false, cond, List, [], length, drop, None, Some, refl, sym, ap, ◌∙◌, append_assoc, arith, slice_get}
 use Rattle.std.specs.Prelude.{◌&&◌, not}
 use Rattle.std.specs.List.{list_all, prefix_len}
 use Rattle.std.proofs.lemmas.List.Folds.{list_all-append}
@@ -12,7 +12,7 @@ use Rattle.f77_meaning.specs.IsCodeOf.{ends_iteration, from_iteration_end}
 use Rattle.f77_meaning.specs.Perform.{performed, turned_by}
 use Rattle.f77_meaning.specs.Print.{Printing}
 use Rattle.f77_meaning.specs.Process.{ActiveLoop, Frame}
-use Rattle.f77_meaning.specs.Step.{Move, increment_move}
+use Rattle.f77_meaning.specs.Step.{increment_move}
 use Rattle.f77_code.specs.Statements.{ends_at, turn_if, turns_code}
 use Rattle.f77_code.proofs.Expressions.{first_of_two, second_of_two}
 use Rattle.f77_code.proofs.Quiet.{Turnless}
@@ -21,7 +21,7 @@ same_number : (a b : ℕ) → a ≡ b → (a == b) ≡ true
 same_number a b e = grind (arith, e)
 
 -- all of them end iterations
-turns_end : (loops : List Loop) (number : ℕ) → list_all ends_iteration (turns_code loops number) ≡ true
+pub turns_end : (loops : List Loop) (number : ℕ) → list_all ends_iteration (turns_code loops number) ≡ true
 turns_end [] number = refl
 turns_end (loop ∷ loops) number = list_all-append ends_iteration (turns_code loops number) (turn_if (ends_at number loop) loop) ∙ (λ i. turns_end loops number i && one (ends_at number loop) i)
   where

@@ -1,6 +1,5 @@
 -- The ends of iterations, the last loop first.
 use Rattle.std.proofs.Common.{◌≡◌, ℕ, ◌++◌, List, [], ◌∷◌, sym, ap, ◌∙◌, append_assoc, append-nil}
-use Rattle.f77_ast.specs.declared.code.Instr.{Instr}
 use Rattle.f77_ast.specs.declared.program.Loop.{Loop}
 use Rattle.f77_code.specs.Statements.{ends_at, turn_if, turns_code}
 

@@ -1,6 +1,6 @@
 -- The code of a unit is its code.
-use Rattle.std.proofs.Common.{◌≡◌, ℕ, zero, suc, ◌+◌, ◌-◌, ◌<◌, ◌≤◌, ◌==◌, ◌∷◌, ◌++◌, ℤ, pos, Bool, true, false, cond, List, [], length, drop, Option, None, Some, IsTrue, refl, sym, ap, subst, ◌∙◌, append_assoc, arith, slice_get, eqb-true}
-use Rattle.std.specs.Prelude.{IfOk, Result, Ok, Err, slice_index_or, unsigned_abs}
+use Rattle.std.proofs.Common.{◌≡◌, ℕ, zero, suc, ◌+◌, ◌-◌, ◌≤◌, ◌==◌, ◌∷◌, ◌++◌, pos, Bool, true, false, cond, List, [], length, drop, Some, IsTrue, refl, sym, ap, subst, ◌∙◌, append_assoc, arith, slice_get, eqb-true}
+use Rattle.std.specs.Prelude.{IfOk, Result, Ok, Err, unsigned_abs}
 use Rattle.std.specs.List.{list_all}
 use Rattle.f77_ast.proofs.Loops.{loop_at-numbered}
 use Rattle.f77_ast.specs.Loop.{IsNumbered, loop_at}
@@ -12,7 +12,7 @@ use Rattle.f77_ast.specs.declared.program.Loop.{Loop}
 use Rattle.f77_ast.specs.declared.program.Program.{Program}
 use Rattle.f77_ast.specs.declared.stmt.Stmt.{Stmt}
 use Rattle.f77_ast.specs.declared.stmt.Stmt as stmt
-use Rattle.f77_structure.specs.HasMeaning.{control_has_meaning, expr_has_meaning, item_has_meaning, ref_has_meaning, statement_has_meaning}
+use Rattle.f77_structure.specs.HasMeaning.{expr_has_meaning, item_has_meaning, ref_has_meaning, statement_has_meaning}
 use Rattle.f77_structure.specs.Labels.{distance_to}
 use Rattle.f77_structure.specs.Loops.{loop_with_range_from, loops_of}
 use Rattle.f77_structure.specs.Ranges.{IsDo, terminal_at}
@@ -20,21 +20,23 @@ use Rattle.f77_structure.specs.Statements.{is_executable}
 use Rattle.f77_structure.specs.Units.{listing_of, next_place, statement_number, statements_before}
 use Rattle.f77_structure.proofs.LoopLemmas.{loops_of-numbered}
 use Rattle.f77_structure.proofs.Loops.{range_of_loop}
-use Rattle.f77_meaning.specs.IsCodeOf.{IsAt, IsCodeOf, IsTurning, after_item_ends, code_at, from_iteration_end, item_count}
+use Rattle.f77_structure.specs.Needs.{need_of}
+use Rattle.f77_meaning.specs.Height.{FallBelow, HoldsAtMost, turn_ordinals}
+use Rattle.f77_meaning.specs.IsCodeOf.{IsCodeOf, after_item_ends, code_at, from_iteration_end, item_count}
 use Rattle.f77_meaning.specs.Perform.{performed}
-use Rattle.f77_meaning.specs.Print.{Printing, after_items, printed_of}
+use Rattle.f77_meaning.specs.Print.{Printing}
 use Rattle.f77_meaning.specs.Process.{ActiveLoop, Frame, listed_of}
-use Rattle.f77_meaning.specs.Step.{Move, increment_move, loop_of_do, print_move, statement_move}
-use Rattle.f77_meaning.specs.Demand.{setting_of}
-use Rattle.f77_code.specs.Statements.{ends_at, executed_code, items_code, own_code, statement_code, turns_code}
-use Rattle.f77_code.specs.Units.{instrs_from, nexts_from, starts_from, unit_code}
-use Rattle.f77_code.proofs.Entities.{below_length}
+use Rattle.f77_meaning.specs.Step.{increment_move, loop_of_do, statement_move}
+use Rattle.f77_code.specs.Statements.{items_code, own_code, statement_code, turns_code}
+use Rattle.f77_code.specs.Units.{instrs_from, unit_code}
 use Rattle.f77_code.proofs.Expressions.{first_of_two, second_of_two}
 use Rattle.f77_code.proofs.Lists.{Begins, begins, next_at, starts_length}
 use Rattle.f77_code.proofs.Prints.{items_steps}
 use Rattle.f77_code.proofs.Quiet.{items_passed, own_turnless}
+use Rattle.f77_code.proofs.Falling.{falls}
+use Rattle.f77_code.proofs.Rooms.{own_room}
 use Rattle.f77_code.proofs.Steps.{assign_steps, do_steps}
-use Rattle.f77_code.proofs.Turning.{Turns, own_passed, turn_found}
+use Rattle.f77_code.proofs.Turning.{own_passed, turn_found}
 
 -- a loop that is found is in the list, and its range begins with the statement
 record InList (loops : List Loop) (number : ℕ) (loop : Loop) : Type 0 where
@@ -75,19 +77,19 @@ module _ (program : Program) (loops : program.loops ≡ loops_of program.units) 
 
   -- from the code of a statement on
   record StartsHere (unit at : ℕ) (listed : Listed) : Type 0 where
-    rest : List Instr
-    is : code_at (code_for unit) at ≡ statement_code program.loops program.layout unit (statement_number program.units unit at) listed.stmt ++ rest
+    following : List Listed
+    is : code_at (code_for unit) at ≡ statement_code program.loops program.layout unit (statement_number program.units unit at) listed.stmt ++ instrs_from program.loops program.layout unit (suc (statement_number program.units unit at)) following
 
   starts_here : (unit at : ℕ) (listed : Listed) → slice_get (listing_of program.units unit) at ≡ Some listed → StartsHere unit at listed
   starts_here unit at listed e =
       let b : Begins program.loops program.layout unit (1 + statements_before program.units unit) 0 at (listing_of program.units unit) listed = begins program.loops program.layout unit (1 + statements_before program.units unit) 0 at (listing_of program.units unit) listed e in
       record {
-        rest = b.rest;
+        following = b.following;
         is =
             ap (λ z. drop (unsigned_abs z) (instrs_from program.loops program.layout unit (1 + statements_before program.units unit) (listing_of program.units unit))) b.start
             ∙ ap (λ n. drop n (instrs_from program.loops program.layout unit (1 + statements_before program.units unit) (listing_of program.units unit))) (none_first b.offset)
             ∙ b.code
-            ∙ ap (λ n. statement_code program.loops program.layout unit n listed.stmt ++ b.rest) (grouped (statements_before program.units unit) at);
+            ∙ ap (λ n. statement_code program.loops program.layout unit n listed.stmt ++ instrs_from program.loops program.layout unit (suc n) b.following) (grouped (statements_before program.units unit) at);
       }
     where
       none_first : (n : ℕ) → 0 + n ≡ n
@@ -134,9 +136,10 @@ module _ (program : Program) (loops : program.loops ≡ loops_of program.units) 
         let h : StartsHere frame.unit frame.at listed = starts_here frame.unit frame.at listed e in
         let turns : List Instr = turns_code program.loops number in
         let own : List Instr = own_code program.loops program.layout frame.unit number listed.stmt in
+        let rest : List Instr = instrs_from program.loops program.layout frame.unit (suc number) h.following in
         ap (λ c. performed program [] below (after_item_ends frame.items c) [] frame.answers p)
-        (h.is ∙ ap (λ b. cond b (own ++ turns) [] ++ h.rest) runs ∙ append_assoc own turns h.rest)
-        ∙ own_steps listed.stmt (turns ++ h.rest) runs m items
+        (h.is ∙ ap (λ b. cond b (own ++ turns) [] ++ rest) runs ∙ append_assoc own turns rest)
+        ∙ own_steps listed.stmt (turns ++ rest) runs m items
 
     -- the ends of iterations
     turns_here : (listed : Listed) (active : ActiveLoop) (outer : List ActiveLoop) (at label : ℕ) (its : Loop) → listed_of program frame ≡ Some listed → IsTrue (is_executable listed.stmt) → frame.active ≡ active ∷ outer → IsDo (listing_of program.units frame.unit) at label → loop_of_do program frame.unit at ≡ Some its → active.ordinal ≡ its.ordinal → frame.at ≡ terminal_at (listing_of program.units frame.unit) at label →
@@ -145,17 +148,36 @@ module _ (program : Program) (loops : program.loops ≡ loops_of program.units) 
         let h : StartsHere frame.unit frame.at listed = starts_here frame.unit frame.at listed e in
         let turns : List Instr = turns_code program.loops number in
         let own : List Instr = own_code program.loops program.layout frame.unit number listed.stmt in
+        let rest : List Instr = instrs_from program.loops program.layout frame.unit (suc number) h.following in
         let i : InList program.loops (statement_number program.units frame.unit at + 1) its = in_list program.loops (statement_number program.units frame.unit at + 1) its found in
         let range : its.last - its.from ≡ distance_to label (drop (at + 1) (listing_of program.units frame.unit)) =
         range_of_loop program.units frame.unit at label its begins_here (subst (λ l. loop_with_range_from l (statement_number program.units frame.unit at + 1) ≡ Some its) loops found) in
         let from : its.from ≡ statement_number program.units frame.unit at + 1 = i.from in
         let ends : its.from + (its.last - its.from) ≡ number = omega (arith, range, from, terminal) in
-        ap (λ c. performed program [] below (from_iteration_end c) [] [] p) (h.is ∙ ap (λ b. cond b (own ++ turns) [] ++ h.rest) runs ∙ append_assoc own turns h.rest)
-        ∙ ap (λ c. performed program [] below c [] [] p) (own_passed own (turns ++ h.rest) (own_turnless program.loops program.layout frame.unit number listed.stmt))
-        ∙ (turn_found program [] below p active outer innermost program.loops number i.place its h.rest i.there (same_number (its.from + (its.last - its.from)) number ends) ordinal).turns
+        ap (λ c. performed program [] below (from_iteration_end c) [] [] p) (h.is ∙ ap (λ b. cond b (own ++ turns) [] ++ rest) runs ∙ append_assoc own turns rest)
+        ∙ ap (λ c. performed program [] below c [] [] p) (own_passed own (turns ++ rest) (own_turnless program.loops program.layout frame.unit number listed.stmt))
+        ∙ (turn_found program [] below p active outer innermost program.loops number i.place its rest i.there (same_number (its.from + (its.last - its.from)) number ends) ordinal).turns
       where
         same_number : (a b : ℕ) → a ≡ b → (a == b) ≡ true
         same_number a b e = grind (arith, e)
+
+  -- the ends of inner loops come before those of outer ones
+  falls_here : (unit at : ℕ) (listed : Listed) → slice_get (listing_of program.units unit) at ≡ Some listed → FallBelow (length program.loops + 1) (turn_ordinals (from_iteration_end (code_at (code_for unit) at)))
+  falls_here unit at listed e =
+      let h : StartsHere unit at listed = starts_here unit at listed e in
+      subst (λ c. FallBelow (length program.loops + 1) (turn_ordinals (from_iteration_end c))) (sym h.is)
+      (falls program.loops program.layout unit numbered (statement_number program.units unit at) (listed ∷ h.following))
+
+  -- the operands of a statement
+  room_here : (unit at : ℕ) (listed : Listed) → slice_get (listing_of program.units unit) at ≡ Some listed → IsTrue (is_executable listed.stmt) → IsTrue (statement_has_meaning program.units program.layout unit listed.stmt) → HoldsAtMost (need_of listed.stmt + 1) (code_at (code_for unit) at) 0
+  room_here unit at listed e runs m =
+      let h : StartsHere unit at listed = starts_here unit at listed e in
+      let number : ℕ = statement_number program.units unit at in
+      let own : List Instr = own_code program.loops program.layout unit number listed.stmt in
+      let turns : List Instr = turns_code program.loops number in
+      let rest : List Instr = instrs_from program.loops program.layout unit (suc number) h.following in
+      subst (λ c. HoldsAtMost (need_of listed.stmt + 1) c 0) (sym (h.is ∙ ap (λ b. cond b (own ++ turns) [] ++ rest) runs ∙ append_assoc own turns rest))
+      (own_room program unit number listed.stmt (turns ++ rest) runs m)
 
   -- the code of a unit is its code
   pub code_is : (unit : ℕ) → IsCodeOf program unit (code_for unit)
@@ -170,6 +192,8 @@ module _ (program : Program) (loops : program.loops ≡ loops_of program.units) 
         (turns_here frame below line h.listed active outer h.at h.label h.its h.stands h.executable h.innermost
         (subst (λ u. IsDo (listing_of program.units u) h.at h.label) (sym h.same) h.begins) (subst (λ u. loop_of_do program u h.at ≡ Some h.its) (sym h.same) h.found) h.ordinal
         (subst (λ u. frame.at ≡ terminal_at (listing_of program.units u) h.at h.label) (sym h.same) h.terminal));
+    inner_first = λ at listed e runs. falls_here unit at listed e;
+    room = room_here unit;
   }
     where
       none_first : (n : ℕ) → 0 + n ≡ n

@@ -1,5 +1,5 @@
 -- The code of statements.
-use Rattle.std.specs.Prelude.{ℕ, ◌+◌, ◌-◌, ◌==◌, ◌++◌, ℤ, pos, Bool, List, [], ◌∷◌, Option, None, Some, if◌then◌else◌}
+use Rattle.std.specs.Prelude.{ℕ, ◌+◌, ◌-◌, ◌==◌, ◌++◌, pos, Bool, List, [], ◌∷◌, Option, None, Some, if◌then◌else◌}
 use Rattle.std.specs.List.{flat_map}
 use Rattle.std.specs.Option.{is_some}
 use Rattle.f77_ast.specs.Entity.{number_in}
@@ -65,9 +65,10 @@ module _ (layout : Layout) (unit : ℕ) where
   abbrev pub parameters_code : LoopControl → List Instr
   parameters_code control = expr_code layout unit control.first ++ expr_code layout unit control.last ++ increment_code control.increment
 
-  -- a DO, by the number of its variable, and its loop. Each DO has one; where none is known, its tree ends the run
+  -- a DO, by the number of its variable, and its loop. Each DO has one; where none is known, its tree ends
+  -- the run. A name of nothing has no meaning
   abbrev pub do_code : LoopControl → Option ℕ → Option Loop → List Instr
-  do_code control None loop = []
+  do_code control None loop = instr.Stop ∷ []
   do_code control (Some number) None = instr.Stop ∷ []
   do_code control (Some number) (Some loop) = Entity number ∷ parameters_code control ++ Count loop.ordinal ∷ []
 

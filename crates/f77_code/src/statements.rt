@@ -77,7 +77,7 @@ fn add_do(
     ensures { OnOk result (code.new ≡ code.old ++ do_code layout.now unit control.now (number_in layout.now.entities unit control.now.variable) (option_copied its.entry)) }
 {
     let Some(number) = layout.entities.number_of(unit, &control.variable) else {
-        return Ok(());
+        return code.push(Instr::Stop);
     };
     let Some(its) = its else {
         return code.push(Instr::Stop);

@@ -1,5 +1,5 @@
 -- That code is the code of a unit, said by what it does.
-use Rattle.std.specs.Prelude.{◌≡◌, ℕ, zero, suc, ◌+◌, ◌<◌, ◌≤◌, ℤ, pos, Bool, true, false, not, List, [], ◌∷◌, drop, length, Option, None, Some, IsTrue, unsigned_abs, slice_get, slice_index_or}
+use Rattle.std.specs.Prelude.{◌≡◌, ℕ, zero, suc, ◌+◌, ◌<◌, ◌≤◌, pos, Bool, true, false, not, List, [], ◌∷◌, drop, length, Some, IsTrue, unsigned_abs, slice_get, slice_index_or}
 use Rattle.std.specs.List.{prefix_len}
 use Rattle.f77_ast.specs.declared.code.Code.{Code}
 use Rattle.f77_ast.specs.declared.code.Instr.{Instr}
@@ -10,9 +10,11 @@ use Rattle.f77_ast.specs.declared.program.Program.{Program}
 use Rattle.f77_ast.specs.declared.stmt.Stmt.{Stmt}
 use Rattle.f77_ast.specs.declared.stmt.Stmt as stmt
 use Rattle.f77_structure.specs.HasMeaning.{statement_has_meaning}
+use Rattle.f77_structure.specs.Needs.{need_of}
 use Rattle.f77_structure.specs.Ranges.{IsDo, terminal_at}
 use Rattle.f77_structure.specs.Statements.{is_executable}
 use Rattle.f77_structure.specs.Units.{listing_of, next_place}
+use Rattle.f77_meaning.specs.Height.{FallBelow, HoldsAtMost, turn_ordinals}
 use Rattle.f77_meaning.specs.Perform.{performed}
 use Rattle.f77_meaning.specs.Process.{ActiveLoop, Frame, listed_of}
 use Rattle.f77_meaning.specs.Step.{increment_move, loop_of_do, statement_move}
@@ -161,8 +163,10 @@ pub record IsTurning (program : Program) (unit : ℕ) (frame : Frame) (active : 
   pub executable : IsTrue (is_executable listed.stmt)
 
 -- Code is that of a unit where, from the instruction at which a statement begins, after the items that are done, on no operand and on
--- every list of answers, it comes to the step to which the statement's trees come, and leaves no operand; where at the end of an iteration, from the
--- first instruction on that ends one, it comes to that step; and where control goes on at the places that it names.
+-- every list of answers, it comes to the step to which the statement's trees come, without lacking an operand or leaving one, and holds no
+-- more than the statement's operand need and one (the increment that DO leaves out); where at the end of an iteration, from the first
+-- instruction on that ends one, it comes to that step, and the ends of inner loops come before those of outer ones; and where control goes
+-- on at the places that it names.
 pub record IsCodeOf (program : Program) (unit : ℕ) (code : Code) : Type 0 where
   pub starts : length code.starts ≡ length (listing_of program.units unit)
   pub nexts : (at : ℕ) → at < length (listing_of program.units unit) → slice_get code.nexts at ≡ Some (pos (next_place (listing_of program.units unit) at))
@@ -172,3 +176,6 @@ pub record IsCodeOf (program : Program) (unit : ℕ) (code : Code) : Type 0 wher
   pub turns : (frame : Frame) (below : List Frame) (line : List ℕ) (active : ActiveLoop) (outer : List ActiveLoop) → IsTurning program unit frame active outer →
       performed program code.texts below (from_iteration_end (code_at code frame.at)) [] [] (record { frame = frame; line = line })
       ≡ Some (increment_move program frame below line frame.active)
+  pub inner_first : (at : ℕ) (listed : Listed) → slice_get (listing_of program.units unit) at ≡ Some listed → IsTrue (is_executable listed.stmt) → FallBelow (length program.loops + 1) (turn_ordinals (from_iteration_end (code_at code at)))
+  pub room : (at : ℕ) (listed : Listed) → slice_get (listing_of program.units unit) at ≡ Some listed → IsTrue (is_executable listed.stmt) → IsTrue (statement_has_meaning program.units program.layout unit listed.stmt) →
+      HoldsAtMost (need_of listed.stmt + 1) (code_at code at) 0

@@ -10,5 +10,6 @@ pub mod Sound
 pub mod Step
 pub mod Laws
 pub mod Operands
+pub mod Height
 pub mod Perform
 pub mod IsCodeOf

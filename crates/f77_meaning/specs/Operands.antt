@@ -1,5 +1,5 @@
 -- The operands of postfix code, and what takes them from a stack.
-use Rattle.std.specs.Prelude.{ℕ, zero, suc, ℤ, List, [], ◌∷◌, Option, None, Some}
+use Rattle.std.specs.Prelude.{ℕ, zero, suc, List, [], ◌∷◌, Option, None, Some}
 use Rattle.f77_ast.specs.declared.program.Entity.{Entity}
 use Rattle.f77_structure.specs.Values.{Value}
 use Rattle.f77_meaning.specs.Demand.{Located, Location, Setting, gives, located}

@@ -2,23 +2,21 @@
 --
 -- docs/CODE.md has the code of statements of each kind. What takes operands is of the same words as the trees: `located`, `value_at`,
 -- `unary_of`, `binary_of`, `plainly`, `accumulate_at`, `begun_with` and the moves of a step.
-use Rattle.std.specs.Prelude.{ℕ, zero, suc, ◌-◌, ◌==◌, ℤ, pos, List, [], ◌∷◌, map, Option, None, Some, slice_get, if◌then◌else◌}
+use Rattle.std.specs.Prelude.{ℕ, zero, suc, ◌-◌, ◌==◌, ℤ, List, [], ◌∷◌, map, Option, None, Some, slice_get, if◌then◌else◌}
 use Rattle.hyb_base.specs.Reduction.{apply}
 use Rattle.hyb_base.specs.declared.ops.RedOp.{RedOp}
 use Rattle.f77_ast.specs.Loop.{loop_at}
-use Rattle.f77_ast.specs.declared.code.Code.{Code}
 use Rattle.f77_ast.specs.declared.code.Instr.{Instr}
 use Rattle.f77_ast.specs.declared.code.Instr.TheVariants as instr
-use Rattle.f77_ast.specs.declared.expr.Op.{Op}
 use Rattle.f77_ast.specs.declared.fault.Fault.TheVariants.{LineLimit}
 use Rattle.f77_ast.specs.declared.program.Entity.{Entity}
 use Rattle.f77_ast.specs.declared.program.Program.{Program}
 use Rattle.f77_structure.specs.Storage.{elements_of}
 use Rattle.f77_structure.specs.Values.{Value, integer, truth, chars, unary_of, binary_of}
 use Rattle.f77_meaning.specs.Assign.{Written, accumulate_at, plainly}
-use Rattle.f77_meaning.specs.Demand.{Demand, gives, wants, calls, fails, and_then, Evaluation, Located, Location, Setting, setting_of, located, number_of, operated, term, value_at}
+use Rattle.f77_meaning.specs.Demand.{Demand, gives, wants, calls, fails, and_then, Evaluation, Location, Setting, setting_of, located, number_of, operated, term, value_at}
 use Rattle.f77_meaning.specs.Do.{Begun, begun_with}
-use Rattle.f77_meaning.specs.Operands.{Operand, Stack, value, entity, place, with_value, with_values, with_entity, with_place}
+use Rattle.f77_meaning.specs.Operands.{Stack, value, entity, place, with_value, with_values, with_entity, with_place}
 use Rattle.f77_meaning.specs.Print.{Printing, element_after, next_item, next_cell, or_blank, text_of, with_text}
 use Rattle.f77_meaning.specs.Process.{ActiveLoop, Frame, process_with}
 use Rattle.f77_meaning.specs.Step.{Move, reading, moving, printing, ending, failing, do_move, increment_move, past_statement, write_move}

@@ -1,7 +1,6 @@
-use Rattle.std.proofs.Common.{◌≡◌, ◌+◌, ap, arith, subst, sym, ◌∙◌}
-use Rattle.f77_ast.specs.declared.code.Code.{Code}
+use Rattle.std.proofs.Common.{◌≡◌, ◌+◌, arith, subst, sym, ◌∙◌}
 use Rattle.f77_ast.specs.declared.program.Program.{Program}
-use Rattle.f77_structure.specs.Units.{listing_of, statements_before}
+use Rattle.f77_structure.specs.Units.{listing_of}
 use Rattle.f77_structure.proofs.Rising.{counted_in}
 use Rattle.f77_meaning.specs.IsCodeOf.{IsCodeOf}
 use Rattle.f77_code.specs.Units.{unit_code}
