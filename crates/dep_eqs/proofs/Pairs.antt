@@ -9,9 +9,9 @@ use Rattle.usr_graph.specs.declared.node.Node.TheVariants as n
 use Rattle.usr_graph.specs.declared.triple.Triple.{Triple}
 use Rattle.usr_graph.specs.Built.{Keeps, IsAdded}
 use Rattle.usr_graph.specs.Members.{IsMember}
-use Rattle.sum_algebra.specs.Rules.{IsIn}
-use Rattle.sum_algebra.proofs.Graphs.{both_ways, either_same, joint_same, keeps_then}
-use Rattle.sum_algebra.proofs.Loops.{over_same, before_same, over_some, before_at}
+use Rattle.usr_graph.specs.Triples.{IsIn}
+use Rattle.usr_graph.proofs.Graphs.{keeps_then}
+use Rattle.usr_graph.proofs.Sets.{both_ways, either_same, joint_same, over_same, before_same, over_some, before_at}
 use Rattle.dep_eqs.specs.declared.equations.Eqs.{Eqs}
 use Rattle.dep_eqs.specs.Equations.{IsPairs, AreEquations, EquationsTell, EqsAreIn}
 

@@ -7,7 +7,7 @@ use Rattle.uses.specs.Use.{Use}
 use Rattle.usr_graph.specs.declared.node.Node.{Node}
 use Rattle.usr_graph.specs.declared.triple.Triple.{Triple}
 use Rattle.usr_graph.specs.Members.{Worth, Choice, IsMember}
-use Rattle.sum_algebra.specs.Tell.{TellsAt}
+use Rattle.usr_graph.specs.Triples.{TellsAt}
 use Rattle.dep_eqs.specs.declared.equations.Eqs.{Eqs}
 
 -- where the count has a value and the index a place: an address is a member exactly where, for some k before some j up to the count, it is a member of one of two sets

@@ -1,8 +1,8 @@
 //! The three equations.
 ghost use Rattle.std.specs.Prelude.{◌≡◌, ◌<◌, ◌≤◌, ◌+◌, length, IfOk};
-ghost use Rattle.usr_graph.specs.Bounds.{StayBounded};
 ghost use Rattle.usr_graph.specs.Built.{Keeps};
-ghost use Rattle.sum_algebra.specs.Rules.{IsIn, loop_bounded};
+ghost use Rattle.usr_graph.specs.Names.{OnlyNames, loop_named};
+ghost use Rattle.usr_graph.specs.Triples.{IsIn};
 ghost use Rattle.dep_eqs.specs.Equations.{IsPairs, AreEquations, EquationsTell, EqsAreIn};
 
 use hyb_base::no_memory::NoMemory;
@@ -39,7 +39,7 @@ fn pairs(
     ensures ok { IfOk result (λ id. IsPairs graph.old index count earlier later graph.new id) }
     ensures keeps { Keeps graph.old graph.new }
     ensures few { length graph.new ≤ length graph.old + 5 }
-    ensures bounded { StayBounded (loop_bounded index count) graph.old graph.new }
+    ensures names { OnlyNames (loop_named index count) graph.old graph.new }
 {
     let at_later = graph.add(Node::Union(later.0, later.1))?;
     let at_earlier = graph.add(Node::Union(earlier.0, earlier.1))?;
@@ -68,7 +68,7 @@ fn all_pairs(
     ensures ok { IfOk result (λ eqs. AreEquations graph.old index count triple.now graph.new eqs) }
     ensures keeps { Keeps graph.old graph.new }
     ensures few { length graph.new ≤ length graph.old + 15 }
-    ensures bounded { StayBounded (loop_bounded index count) graph.old graph.new }
+    ensures names { OnlyNames (loop_named index count) graph.old graph.new }
 {
     let of_flow = copy(alloc, &count)?;
     let of_anti = copy(alloc, &count)?;
@@ -95,7 +95,7 @@ pub fn equations(
     ensures uses { IfOk result (λ eqs. EquationsTell graph.old index count triple.now graph.new eqs) }
     ensures keeps { Keeps graph.old graph.new }
     ensures few { length graph.new ≤ length graph.old + 15 }
-    ensures bounded { StayBounded (loop_bounded index count) graph.old graph.new }
+    ensures names { OnlyNames (loop_named index count) graph.old graph.new }
 {
     all_pairs(alloc, graph, index, count, triple)
 }

@@ -1,5 +1,6 @@
 -- Which files are accepted.
 use Rattle.std.proofs.Common.{◌≡◌, ℕ, List, Option, None, Some, Result, Ok, Err, refl, sym, ap, ◌∙◌}
+use Rattle.f77_ast.specs.declared.program.Entity.{Entity}
 use Rattle.f77_ast.specs.declared.program.Layout.{Layout}
 use Rattle.f77_ast.specs.declared.program.Listed.{Listed}
 use Rattle.f77_ast.specs.declared.program.Program.{Program}
@@ -8,7 +9,8 @@ use Rattle.f77_ast.specs.declared.refusal.Refusal.{Refusal}
 use Rattle.f77_cards.specs.Cards.{cards_of}
 use Rattle.f77_front.proofs.Listings.{listing_spelled, spelled_listing}
 use Rattle.f77_front.specs.Accepted.{IsAccepted}
-use Rattle.f77_front.specs.Front.{and_then, listing_of, unless_refused, program_with, program_of, units_of, front_of}
+use Rattle.f77_front.specs.Front.{and_then, kept_units, listing_of, unless_refused, program_with, program_of, units_of, front_of}
+use Rattle.f77_names.specs.Resolve.{resolve_of}
 use Rattle.f77_structure.specs.Loops.{loops_of}
 use Rattle.f77_operands.specs.Limit.{operand_refusal}
 use Rattle.f77_shape.specs.Shape.{shape_of}
@@ -42,13 +44,21 @@ program_made units program e =
 
 pub record AreUnits (statements : List Listed) (units : List ProgramUnit) : Type 0 where
   pub shape : shape_of statements ≡ Ok units
+  pub entities : List Entity
+  pub names : resolve_of units ≡ Ok entities
   pub operands : operand_refusal units ≡ None
 
 pub units_made : (statements : List Listed) (units : List ProgramUnit) → units_of statements ≡ Ok units → AreUnits statements units
 units_made statements units e =
-    let m = made (shape_of statements) (λ all. unless_refused (operand_refusal all) all) units e in
-    let u = unless_made (operand_refusal m.made) m.made units m.on in
-    rw (sym u.1) (record { shape = m.is; operands = u.0 })
+    let m = made (shape_of statements) kept_units units e in
+    let k = made (resolve_of m.made) (λ entities. unless_refused (operand_refusal m.made) m.made) units m.on in
+    let u = unless_made (operand_refusal m.made) m.made units k.on in
+    record {
+      shape = m.is ∙ ap Ok u.1;
+      entities = k.made;
+      names = ap resolve_of (sym u.1) ∙ k.is;
+      operands = ap operand_refusal (sym u.1) ∙ u.0;
+    }
 
 -- the parts of an accepted file
 pub accepted_of : (bytes : List ℕ) (program : Program) → front_of bytes ≡ Ok program → IsAccepted bytes program
@@ -64,6 +74,8 @@ accepted_of bytes program e =
       cut = c.is;
       listed = listing_spelled c.made s.made s.is;
       shape = a.shape;
+      entities = a.entities;
+      names = a.names;
       operands = a.operands;
       loops = refl;
       layout = p.subset;
@@ -76,7 +88,8 @@ of_accepted bytes program a =
     let same : program_with program.units program.layout ≡ program = ap (λ loops. record { units = program.units; layout = program.layout; loops = loops }) (sym a.loops) in
     ap (λ r. and_then r (λ cards. and_then (listing_of cards) (λ statements. and_then (units_of statements) program_of))) a.cut
     ∙ ap (λ r. and_then r (λ statements. and_then (units_of statements) program_of)) (spelled_listing a.cards a.statements a.listed)
-    ∙ ap (λ r. and_then (and_then r (λ units. unless_refused (operand_refusal units) units)) program_of) a.shape
+    ∙ ap (λ r. and_then (and_then r kept_units) program_of) a.shape
+    ∙ ap (λ r. and_then (and_then r (λ entities. unless_refused (operand_refusal program.units) program.units)) program_of) a.names
     ∙ ap (λ o. and_then (unless_refused o program.units) program_of) a.operands
     ∙ ap (λ r. and_then r (λ layout. Ok (program_with program.units layout))) subset
     ∙ ap Ok same

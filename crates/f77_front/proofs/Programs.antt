@@ -1,6 +1,5 @@
 -- An accepted program is sound.
-use Rattle.std.proofs.Common.{◌≡◌, ℕ, zero, suc, ◌+◌, ◌<◌, ◌^◌, true, false, not, List, [], ◌∷◌, ◌++◌, length, All, Some, Result, Ok, Err, refl, sym, ap, ◌∙◌, subst, arith, get_or, slice_get, IsTrue}
-use Rattle.std.proofs.lemmas.Option.{get_or_from_slice_get, slice_get-get_or, slice_get_within}
+use Rattle.std.proofs.Common.{◌≡◌, ℕ, zero, suc, ◌+◌, ◌<◌, ◌^◌, true, false, not, List, [], ◌∷◌, ◌++◌, length, All, Some, Result, Ok, Err, refl, sym, ap, ◌∙◌, subst, arith, slice_get, IsTrue}
 use Rattle.std.proofs.lemmas.List.Elements.{All-cons}
 use Rattle.std.specs.Prelude.{IfOk}
 use Rattle.f77_ast.specs.declared.program.Layout.{Layout}
@@ -12,18 +11,16 @@ use Rattle.f77_ast.specs.declared.stmt.Stmt as stmt
 use Rattle.f77_front.proofs.Files.{program_made, units_made, accepted_of}
 use Rattle.f77_front.specs.Front.{program_with, program_of, units_of, front_of}
 use Rattle.f77_structure.specs.Loops.{loops_of}
-use Rattle.f77_structure.specs.Units.{statement_count, ExecutablesFollow, is_main}
+use Rattle.f77_structure.specs.Units.{statement_count, is_main}
 use Rattle.f77_structure.specs.HasMeaning.{statement_has_meaning}
 use Rattle.f77_meaning.specs.Sound.{IsSound}
 use Rattle.f77_structure.specs.Storage.{IsLaidOut}
 use Rattle.f77_shape.proofs.Accepted.{ranges_nest, files_are_small}
 use Rattle.f77_shape.proofs.AcceptedUnits.{units_end, one_main}
-use Rattle.f77_shape.proofs.InOrder.{units_in_order}
-use Rattle.f77_shape.specs.Laws.{HasOneMain, IsInOrder}
-use Rattle.f77_shape.specs.Order.{part_of}
+use Rattle.f77_shape.specs.Laws.{HasOneMain}
 use Rattle.f77_shape.specs.Shape.{shape_of}
 use Rattle.f77_structure.proofs.UnitLemmas.{main_is_there}
-use Rattle.f77_structure.specs.Statements.{begins_subprogram, is_executable}
+use Rattle.f77_structure.specs.Statements.{begins_subprogram}
 use Rattle.f77_subset.proofs.Satisfies.{built_law, laid_out_law, meaning_law, storage_law}
 use Rattle.f77_subset.specs.Built.{is_built}
 use Rattle.f77_subset.specs.Subset.{listing_of, subset_of}
@@ -66,43 +63,18 @@ one_unit (unit ∷ other ∷ units) main built =
 -- ---- all that makes a program sound
 
 -- the statements of one unit have a meaning
-all_mean : (units : List ProgramUnit) (layout : Layout) → (unit : ProgramUnit) × (units ≡ unit ∷ []) → All (λ listed. IsTrue (statement_has_meaning layout 0 listed.stmt)) (listing_of units) → (u : ℕ) (unit : ProgramUnit) → slice_get units u ≡ Some unit → All (λ listed. IsTrue (statement_has_meaning layout u listed.stmt)) unit.listing
+all_mean : (units : List ProgramUnit) (layout : Layout) → (unit : ProgramUnit) × (units ≡ unit ∷ []) → All (λ listed. IsTrue (statement_has_meaning units layout 0 listed.stmt)) (listing_of units) → (u : ℕ) (unit : ProgramUnit) → slice_get units u ≡ Some unit → All (λ listed. IsTrue (statement_has_meaning units layout u listed.stmt)) unit.listing
 all_mean units layout (main, is) means u unit e = by u (sym (ap (λ us. slice_get us u) is) ∙ e)
   where
     P : Listed → Type 0
-    P = λ listed. IsTrue (statement_has_meaning layout 0 listed.stmt)
+    P = λ listed. IsTrue (statement_has_meaning units layout 0 listed.stmt)
 
     first : All P main.listing
     first = of_first P main.listing [] (subst (λ us. All P (listing_of us)) is means)
 
-    by : (u : ℕ) → slice_get (main ∷ []) u ≡ Some unit → All (λ listed. IsTrue (statement_has_meaning layout u listed.stmt)) unit.listing
+    by : (u : ℕ) → slice_get (main ∷ []) u ≡ Some unit → All (λ listed. IsTrue (statement_has_meaning units layout u listed.stmt)) unit.listing
     by zero h = let same : main ≡ unit = cc in subst (λ w. All P w.listing) same first
     by (suc u) h = absurd cc
-
--- of the last part of a unit a statement with a meaning is executable: DATA has none yet
-last_executes : (layout : Layout) (u : ℕ) (s : Stmt) → part_of s ≡ 4 → statement_has_meaning layout u s ≡ true → is_executable s ≡ true
-last_executes layout u (stmt.Program name) e h = absurd cc
-last_executes layout u (stmt.Subroutine name dummies) e h = absurd cc
-last_executes layout u (stmt.Function typ name dummies) e h = absurd cc
-last_executes layout u (stmt.Declare typ entities) e h = absurd cc
-last_executes layout u (stmt.Dimension arrays) e h = absurd cc
-last_executes layout u (stmt.Common groups) e h = absurd cc
-last_executes layout u (stmt.Equivalence groups) e h = absurd cc
-last_executes layout u (stmt.Parameter constants) e h = absurd cc
-last_executes layout u (stmt.Implicit rules) e h = absurd cc
-last_executes layout u (stmt.Save entries) e h = absurd cc
-last_executes layout u (stmt.Init groups) e h = absurd cc
-last_executes layout u _ e h = refl
-
--- so behind an executable statement stand executable ones
-ordered : (units : List ProgramUnit) (layout : Layout) → All (λ unit. IsInOrder unit.listing) units → ((u : ℕ) (unit : ProgramUnit) → slice_get units u ≡ Some unit → All (λ listed. IsTrue (statement_has_meaning layout u listed.stmt)) unit.listing) → All (λ unit. ExecutablesFollow unit.listing) units
-ordered units layout order means u default lt = λ at listed next here there runs.
-    let unit : ProgramUnit = get_or units u default in
-    let mean : All (λ one. IsTrue (statement_has_meaning layout u one.stmt)) unit.listing = means u unit (slice_get-get_or units u default lt) in
-    let found : get_or unit.listing (at + 1) next ≡ next = get_or_from_slice_get unit.listing (at + 1) next next there in
-    let within : at + 1 < length unit.listing = slice_get_within unit.listing (at + 1) next there in
-    let one : statement_has_meaning layout u next.stmt ≡ true = ap (λ l. statement_has_meaning layout u l.stmt) (sym found) ∙ mean (at + 1) next within in
-    last_executes layout u next.stmt (order u default lt at (at + 1) listed next (omega arith) here there runs) one
 
 -- an accepted program is sound: its shape has END, ranges and numbers; that it is built so far gives meanings and storage
 pub program_sound : (statements : List Listed) (units : List ProgramUnit) (layout : Layout) → shape_of statements ≡ Ok units → subset_of (loops_of units) units ≡ Ok layout → IsSound (program_with units layout)
@@ -113,7 +85,6 @@ program_sound statements units layout shape subset =
     record {
       main = main_is_there units mains.place mains.unit mains.stands mains.main;
       ended = units_end statements units shape;
-      ordered = ordered units layout (units_in_order statements units shape) (all_mean units layout one (meaning_law (loops_of units) units layout subset));
       meaning = all_mean units layout one (meaning_law (loops_of units) units layout subset);
       storage = storage_law (loops_of units) units layout subset;
       loops = refl;

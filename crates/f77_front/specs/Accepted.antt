@@ -2,10 +2,12 @@
 use Rattle.std.specs.List.{AllZip}
 use Rattle.std.specs.Prelude.{◌≡◌, ℕ, List, None, Ok}
 use Rattle.f77_ast.specs.declared.program.Card.{Card}
+use Rattle.f77_ast.specs.declared.program.Entity.{Entity}
 use Rattle.f77_ast.specs.declared.program.Listed.{Listed}
 use Rattle.f77_ast.specs.declared.program.Program.{Program}
 use Rattle.f77_cards.specs.Cards.{cards_of}
 use Rattle.f77_structure.specs.Loops.{loops_of}
+use Rattle.f77_names.specs.Resolve.{resolve_of}
 use Rattle.f77_operands.specs.Limit.{operand_refusal}
 use Rattle.f77_shape.specs.Shape.{shape_of}
 use Rattle.f77_stmts.specs.Spelling.{SpellsStmt}
@@ -17,14 +19,16 @@ pub record IsListed (card : Card) (listed : Listed) : Type 0 where
   pub spelled : SpellsStmt listed.stmt card.text
 
 -- the bytes of a file are a program: they are cut into cards, each card's text spells a statement, the statements have the
--- shape of the program's units, these keep the limit on operands, all of them is built so far, and the layout and the loops
--- are theirs
+-- shape of the program's units, these keep the rules on names and the limit on operands, all of them is built by now, and the
+-- layout and the loops are theirs
 pub record IsAccepted (bytes : List ℕ) (program : Program) : Type 0 where
   pub cards : List Card
   pub statements : List Listed
   pub cut : cards_of bytes ≡ Ok cards
   pub listed : AllZip IsListed cards statements
   pub shape : shape_of statements ≡ Ok program.units
+  pub entities : List Entity
+  pub names : resolve_of program.units ≡ Ok entities
   pub operands : operand_refusal program.units ≡ None
   pub loops : program.loops ≡ loops_of program.units
   pub layout : subset_of program.loops program.units ≡ Ok program.layout

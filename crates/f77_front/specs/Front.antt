@@ -1,5 +1,5 @@
--- From the bytes of a file to a program, or to its first refusal: cards, statements, the shape of the file, the limit on
--- operands, and what is built so far. The first of these groups that refuses gives the refusal.
+-- From the bytes of a file to a program, or to its first refusal: cards, statements, the shape of the file, its names, the limit
+-- on operands, and what is built by now. The first of these groups that refuses gives the refusal.
 use Rattle.std.specs.Prelude.{ℕ, List, [], ◌∷◌, Option, None, Some, Result, Ok, Err}
 use Rattle.f77_ast.specs.declared.program.Card.{Card}
 use Rattle.f77_ast.specs.declared.program.Layout.{Layout}
@@ -11,6 +11,7 @@ use Rattle.f77_ast.specs.declared.refusal.Refusal.{Refusal}
 use Rattle.f77_ast.specs.declared.stmt.Stmt.{Stmt}
 use Rattle.f77_cards.specs.Cards.{cards_of}
 use Rattle.f77_structure.specs.Loops.{loops_of}
+use Rattle.f77_names.specs.Resolve.{resolve_of}
 use Rattle.f77_operands.specs.Limit.{operand_refusal}
 use Rattle.f77_shape.specs.Shape.{shape_of}
 use Rattle.f77_stmts.specs.Cause.{rule_of}
@@ -48,9 +49,13 @@ program_with units layout = record { units = units; layout = layout; loops = loo
 abbrev pub program_of : List ProgramUnit → Result Program Refusal
 program_of units = and_then (subset_of (loops_of units) units) (λ layout. Ok (program_with units layout))
 
--- the units of some statements, within the limit on operands
+-- some units whose names keep the rules, and within the limit on operands
+abbrev pub kept_units : List ProgramUnit → Result (List ProgramUnit) Refusal
+kept_units units = and_then (resolve_of units) (λ entities. unless_refused (operand_refusal units) units)
+
+-- the units of some statements, whose names keep the rules, within the limit on operands
 abbrev pub units_of : List Listed → Result (List ProgramUnit) Refusal
-units_of statements = and_then (shape_of statements) (λ units. unless_refused (operand_refusal units) units)
+units_of statements = and_then (shape_of statements) kept_units
 
 -- the program that the bytes of a file make, or the first refusal
 abbrev pub front_of : List ℕ → Result Program Refusal

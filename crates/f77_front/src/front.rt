@@ -21,8 +21,9 @@ use std::alloc::Global;
 /// 2. Codes 11, 12, 13, 20 and 21: a card's text spells no statement.
 /// 3. Codes 50 to 57: units, labels, DO ranges, IF blocks, jumps, order of statements, and the limits on statements, units
 ///    and names.
-/// 4. Code 56: the limit on operands.
-/// 5. Code 21: a statement isn't built by now, or breaks a rule on names, storage or DO variables.
+/// 4. Codes 30, 31, 33, 34, 35 and 37: the rules on names, kinds and constants.
+/// 5. Code 56: the limit on operands.
+/// 6. Code 21: a statement isn't built by now, or breaks a rule on calls or storage.
 ///
 /// `NoMemory` where no memory was to be had.
 pub fn front(alloc: Global, bytes: &[u8]) -> Result<Program, FrontError>

@@ -1,12 +1,13 @@
 //! The units of statements, and the program of units.
 ghost use Rattle.std.specs.Prelude.{◌≡◌, ◌+◌, ◌<◌, ◌^◌, length, Ok, Err, IfOk, IsErrOf};
 ghost use Rattle.f77_ast.specs.declared.refusal.Refusal.{Refusal};
-ghost use Rattle.f77_front.specs.Front.{unless_refused, units_of, program_of};
+ghost use Rattle.f77_front.specs.Front.{kept_units, unless_refused, units_of, program_of};
 ghost use Rattle.f77_structure.specs.Units.{statement_count};
 
 use f77_ast::program::{Listing, Program, Units};
 use f77_ast::refusal::{FrontError, Refusal};
 use f77_loops::loops::loops;
+use f77_names::resolve::resolve;
 use f77_operands::limit::too_many_operands;
 use f77_shape::shape::shape;
 use f77_subset::subset::subset;
@@ -23,14 +24,25 @@ fn unless_refused(refusal: Option<Refusal>, units: Units) -> Result<Units, Front
     }
 }
 
-/// The units of some statements, within the limit on operands, or the first refusal of their shape or of that limit.
+/// Some units whose names keep the rules, and within the limit on operands, or the first refusal of that.
+fn kept_units(alloc: Global, units: Units) -> Result<Units, FrontError>
+    requires few_units { length units < 2 ^ 32 }
+    ensures accepted { IfOk result (λ kept. kept_units units ≡ Ok kept) }
+    ensures refused { (refusal : Refusal) → IsErrOf result (FrontError.Refused refusal) → kept_units units ≡ Err refusal }
+{
+    let _entities = resolve(alloc, units.as_slice())?;
+    let operands = too_many_operands(units.as_slice());
+    unless_refused(operands, units)
+}
+
+/// The units of some statements, whose names keep the rules, within the limit on operands; or the first refusal of their
+/// shape, their names or that limit.
 pub fn units_of(alloc: Global, statements: Listing) -> Result<Units, FrontError>
     ensures accepted { IfOk result (λ units. units_of statements ≡ Ok units) }
     ensures refused { (refusal : Refusal) → IsErrOf result (FrontError.Refused refusal) → units_of statements ≡ Err refusal }
 {
     let units = shape(alloc, statements)?;
-    let refusal = too_many_operands(units.as_slice());
-    unless_refused(refusal, units)
+    kept_units(alloc, units)
 }
 
 /// The program of some units with its loops and its layout, or the first refusal of what isn't built by now.

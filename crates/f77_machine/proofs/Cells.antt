@@ -4,7 +4,7 @@ use Rattle.f77_ast.specs.declared.expr.Kind.TheVariants.{Integer}
 use Rattle.f77_ast.specs.declared.fault.Fault.TheVariants.{DoRange, OutsideRegion, ZeroIncrement}
 use Rattle.f77_structure.specs.Storage.{region_at}
 use Rattle.f77_structure.specs.Values.{integer, value_of_units}
-use Rattle.f77_meaning.specs.Demand.{Demand, Setting, and_then, cell_value, cells_from, fails, gives, is_in_region, is_outside, value_at, value_of_bound}
+use Rattle.f77_meaning.specs.Demand.{Setting, and_then, cell_value, fails, gives, is_in_region, is_outside, value_at, value_of_bound}
 use Rattle.f77_meaning.specs.Do.{Parameters, begun_at, begun_with, is_in_range, is_zero}
 use Rattle.f77_meaning.specs.Process.{placed}
 use Rattle.f77_machine.specs.Evaluated.{as_located}

@@ -381,7 +381,15 @@ impl Process {
             return Stepped::Faulted(Fault::DoVariableWritten);
         }
         cells.put(begun.variable, begun.first);
-        self.enter(program, ActiveLoop::new(listing_of(program.units.as_slice(), self.unit), self.at, found, begun));
+        self.enter(
+            program,
+            ActiveLoop::new(
+                listing_of(program.units.as_slice(), self.unit),
+                self.at,
+                found,
+                begun,
+            ),
+        );
         Stepped::Wrote {
             address: begun.variable,
             by: None,

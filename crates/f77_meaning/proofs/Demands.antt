@@ -15,7 +15,7 @@ use Rattle.f77_ast.specs.declared.program.Place.TheVariants.{Stored, Dummy, Cons
 use Rattle.f77_structure.specs.Storage.{address_of_variable, address_of_element}
 use Rattle.f77_structure.specs.Values.{Value, integer, truth, chars, Operated, yields, breaks, means_nothing, unary_of, binary_of, value_of_units}
 use Rattle.f77_ast.specs.declared.expr.Kind.{Kind}
-use Rattle.f77_meaning.specs.Demand.{fails, gives, and_then, Bounds, Located, Location, Setting, Term, operated, address_written, bounds_of, cell_in, cell_value, cells_from, demand_of, expr_step, is_in_region, is_outside, located, located_by, located_part, location_of, number_demand, number_of, part_step, place_by, place_of, ref_step, stored, term_of, value_at, value_of_bound, width, written_at}
+use Rattle.f77_meaning.specs.Demand.{fails, gives, and_then, Bounds, Located, Location, Setting, Term, operated, address_written, bounds_of, cell_in, cell_value, cells_from, demand_of, expr_step, is_in_region, is_outside, located, located_by, location_of, number_demand, number_of, part_step, place_by, place_of, ref_step, stored, term_of, value_at, value_of_bound, width, written_at}
 use Rattle.f77_meaning.specs.Process.{Binding, placed, valued, unvalued}
 use Rattle.f77_meaning.proofs.Evaluations.{AsksInTurn, settles, looks, then_asks}
 use Rattle.f77_meaning.proofs.Evaluations as turn

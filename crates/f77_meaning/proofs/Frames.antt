@@ -1,5 +1,5 @@
 -- A frame of a sound program is at a statement after each step, in the range of each active loop.
-use Rattle.std.proofs.Common.{◌≡◌, ◌≢◌, ℕ, suc, ◌+◌, ◌-◌, ◌<◌, ◌≤◌, ◌^◌, ◌==◌, List, [], ◌∷◌, length, Option, Some, IsSome, IsTrue, refl, sym, ap, subst, ◌∙◌, arith, slice_get, Bool, true, false, cond}
+use Rattle.std.proofs.Common.{◌≡◌, ◌≢◌, ℕ, suc, ◌+◌, ◌<◌, ◌≤◌, ◌^◌, ◌==◌, List, [], ◌∷◌, length, Option, Some, IsSome, IsTrue, refl, sym, ap, subst, ◌∙◌, arith, slice_get, Bool, true, false, cond}
 use Rattle.std.specs.Prelude.{nat_lt}
 use Rattle.f77_ast.specs.declared.program.Listed.{Listed}
 use Rattle.f77_ast.specs.declared.program.Loop.{Loop}
@@ -166,8 +166,7 @@ past_do_is_frame program frame label loop begun sound known begins_here found be
         past_terminal program sound frame known frame.at label new.last frame.active begins_here last
         (narrower program frame.unit frame.at new.last new.last new.last frame.active (outer frame.active actives) (omega (arith, from)) (omega arith))
     by false h =
-        at_range program sound frame known frame.at label new frame.active begins_here refl
-        (
+        at_range program sound frame known frame.at label new frame.active begins_here refl (
           record {
             at = frame.at;
             label = label;

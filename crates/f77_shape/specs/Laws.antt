@@ -1,13 +1,11 @@
 -- What every accepted file satisfies.
-use Rattle.std.specs.Prelude.{◌≡◌, ◌≢◌, ◌<◌, ◌≤◌, ℕ, List, Some, Ok, length, All, IsTrue, IsFalse, slice_get}
+use Rattle.std.specs.Prelude.{◌≡◌, ◌≢◌, ◌≤◌, ℕ, List, Some, Ok, length, All, IsTrue, IsFalse, slice_get}
 use Rattle.std.specs.List.{flat_map}
 use Rattle.f77_ast.specs.Limits.{most_statements, most_units}
 use Rattle.f77_ast.specs.declared.program.Listed.{Listed}
 use Rattle.f77_ast.specs.declared.program.Unit.{Unit as ProgramUnit}
 use Rattle.f77_structure.specs.Units.{statement_count, EndsWithEnd, is_main}
 use Rattle.f77_structure.specs.Ranges.{RangesNest}
-use Rattle.f77_structure.specs.Statements.{is_executable}
-use Rattle.f77_shape.specs.Order.{part_of}
 use Rattle.f77_shape.specs.Shape.{shape_of}
 
 -- each DO statement of an accepted unit has its range, and ranges nest
@@ -27,14 +25,6 @@ AcceptedFilesAreSmall = (statements : List Listed) (units : List ProgramUnit) �
 -- each accepted unit ends with END, which is nowhere else in it; so it has a statement
 abbrev pub AcceptedUnitsEnd : Type 0
 AcceptedUnitsEnd = (statements : List Listed) (units : List ProgramUnit) → shape_of statements ≡ Ok units → All (λ unit. EndsWithEnd unit.listing) units
-
--- in a unit in this order stand behind an executable statement executable ones and DATA alone
-abbrev pub IsInOrder : List Listed → Type 0
-IsInOrder listing = (at behind : ℕ) (listed later : Listed) → at < behind → slice_get listing at ≡ Some listed → slice_get listing behind ≡ Some later → IsTrue (is_executable listed.stmt) → part_of later.stmt ≡ 4
-
--- the statements of each accepted unit stand so
-abbrev pub AcceptedUnitsAreInOrder : Type 0
-AcceptedUnitsAreInOrder = (statements : List Listed) (units : List ProgramUnit) → shape_of statements ≡ Ok units → All (λ unit. IsInOrder unit.listing) units
 
 -- one of some units is a main unit, and all others are subprograms
 pub record HasOneMain (units : List ProgramUnit) : Type 0 where

@@ -1,5 +1,5 @@
 //! Laws of the definitions of the shape of a file: functions with nothing to do.
-ghost use Rattle.f77_shape.specs.Laws.{AcceptedRangesNest, AcceptedFilesAreSmall, AcceptedUnitsEnd, AcceptedUnitsAreInOrder, AcceptedFilesHaveOneMain};
+ghost use Rattle.f77_shape.specs.Laws.{AcceptedRangesNest, AcceptedFilesAreSmall, AcceptedUnitsEnd, AcceptedFilesHaveOneMain};
 
 /// A law: each DO statement of an accepted file has its range, and the ranges of a unit nest.
 pub fn law_of_nested_ranges()
@@ -14,11 +14,6 @@ pub fn law_of_small_files()
 /// A law: each unit of an accepted file ends with END, and has no other.
 pub fn law_of_units_that_end()
     ensures { AcceptedUnitsEnd }
-{}
-
-/// A law: behind an executable statement of an accepted unit stand executable statements and DATA alone.
-pub fn law_of_order()
-    ensures { AcceptedUnitsAreInOrder }
 {}
 
 /// A law: an accepted file has exactly one main unit.

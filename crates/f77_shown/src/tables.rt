@@ -1,7 +1,9 @@
 //! The tables of a file, a line ended by LF for each of their members: cards, units, loops, entities.
 
+use crate::declarations::show_bounds;
 use crate::exprs::show_expr;
 use crate::lists::{show_count, show_field};
+use f77_ast::expr::Kind;
 use f77_ast::name::Name;
 use f77_ast::program::{Card, Entity, Layout, Loop, Place, Region, Unit};
 use hyb_base::bytes::Bytes;
@@ -94,6 +96,45 @@ pub fn show_entity(
             show_expr(value, into)?;
         }
     }
+    into.push(b'\n')
+}
+
+/// The word for a kind.
+fn kind_word(kind: Kind) -> &'static [u8] {
+    match kind {
+        Kind::Integer => b"integer".as_slice(),
+        Kind::Logical => b"logical".as_slice(),
+        Kind::Character => b"character".as_slice(),
+    }
+}
+
+/// Shows where an entity is kept, after a blank: ` stored`, ` dummy 1` or ` constant 5`.
+fn show_place(place: &Place, into: &mut Bytes) -> Result<(), NoMemory> {
+    match place {
+        Place::Stored(_) => into.push_slice(b" stored".as_slice()),
+        Place::Dummy(number) => {
+            into.push_slice(b" dummy".as_slice())?;
+            show_field(*number, into)
+        }
+        Place::Constant(value) => {
+            into.push_slice(b" constant ".as_slice())?;
+            show_expr(value, into)
+        }
+    }
+}
+
+/// Shows an entity as it is before it has an address, as a line: `entity`, its unit, its name with its dimensions, its kind, its
+/// length, and where it is kept, as in `entity 0 A(1:3) integer 1 stored`.
+pub fn show_resolved(entity: &Entity, into: &mut Bytes) -> Result<(), NoMemory> {
+    into.push_slice(b"entity".as_slice())?;
+    show_field(entity.unit, into)?;
+    into.push(b' ')?;
+    into.push_slice(entity.name.as_slice())?;
+    show_bounds(entity.bounds.as_slice(), into)?;
+    into.push(b' ')?;
+    into.push_slice(kind_word(entity.kind))?;
+    show_field(entity.len, into)?;
+    show_place(&entity.place, into)?;
     into.push(b'\n')
 }
 

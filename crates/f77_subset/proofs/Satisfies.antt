@@ -1,5 +1,5 @@
 -- What a file whose statements are built and keep the rules satisfies.
-use Rattle.std.proofs.Common.{◌≡◌, ℕ, zero, suc, ◌+◌, ◌≤◌, pos, Bool, true, false, not, ◌&&◌, ◌||◌, nat_le, List, [], ◌∷◌, ◌++◌, length, map, find, take, replicate, All, IsTrue, Option, Some, None, Result, Ok, Err, refl, sym, ap, ◌∙◌, subst, slice_get, arith, if◌then◌else◌}
+use Rattle.std.proofs.Common.{◌≡◌, ℕ, zero, suc, ◌+◌, ◌<◌, ◌≤◌, pos, Bool, true, false, not, ◌&&◌, ◌||◌, nat_le, nat_lt, List, [], ◌∷◌, ◌++◌, length, map, find, take, replicate, cond, All, IsTrue, Option, Some, None, Result, Ok, Err, refl, sym, ap, ◌∙◌, subst, get_or, slice_get, arith, if◌then◌else◌}
 use Rattle.std.specs.List.{list_all, list_any, repeat}
 use Rattle.std.specs.Option.{is_some, option_map, option_or}
 use Rattle.std.proofs.lemmas.Bool.{and_from, and_parts}
@@ -21,7 +21,7 @@ use Rattle.f77_ast.specs.declared.specification.Declarator.{Declarator}
 use Rattle.f77_ast.specs.declared.stmt.Stmt.{Stmt, Declare}
 use Rattle.f77_structure.specs.HasMeaning.{statement_has_meaning}
 use Rattle.f77_structure.specs.Values.{is_integer_kind}
-use Rattle.f77_structure.specs.Storage.{span_of, extent_by, storage_units_by, is_scalar, is_stored, is_vector, storage_units_of_all, region_of, LiesIn, IsStorage, IsLaidOut}
+use Rattle.f77_structure.specs.Storage.{span_of, extent_by, storage_units_by, is_scalar, is_stored, is_vector, storage_units_of_all, start_of, lies_in, region_at, region_of, LiesIn, IsStorage, IsLaidOut}
 use Rattle.f77_structure.specs.declared.storage.Span.{Span}
 use Rattle.f77_subset.specs.declared.mention.Mention.{Mention}
 use Rattle.f77_subset.specs.declared.mention.Standing.{Standing}
@@ -40,10 +40,60 @@ use Rattle.f77_subset.proofs.Standing.{appearing, appearing_more, declarations_m
 
 -- ---- storage
 
-lie_from : (total at : ℕ) (ds : List Declarator) → at + total_units ds ≤ total → All (LiesIn total) (entities_from at ds)
+-- an address among the units of the first name lies in the region 0
+first_region : (at : ℕ) (d : Declarator) (ds : List Declarator) (a : ℕ) → at ≤ a → a < at + storage_units_by d.bounds → region_at (regions_from at (d ∷ ds)) a ≡ 0
+first_region at d ds a low high =
+    let inside : lies_in a (record { start = at; len = storage_units_by d.bounds }) ≡ true = grind (arith, low, high) in
+    ap (λ t. cond (not t) (1 + region_at (regions_from (at + storage_units_by d.bounds) ds) a) 0) inside
+
+-- one behind it lies in none of the regions before that of its own name
+later_region : (at : ℕ) (d : Declarator) (ds : List Declarator) (a : ℕ) → at + storage_units_by d.bounds ≤ a → region_at (regions_from at (d ∷ ds)) a ≡ 1 + region_at (regions_from (at + storage_units_by d.bounds) ds) a
+later_region at d ds a behind =
+    let outside : lies_in a (record { start = at; len = storage_units_by d.bounds }) ≡ false = grind (arith, behind) in
+    ap (λ t. cond (not t) (1 + region_at (regions_from (at + storage_units_by d.bounds) ds) a) 0) outside
+
+-- no name begins before the address from which on they stand
+start_from : (at : ℕ) (ds : List Declarator) → All (λ entity. at ≤ start_of entity) (entities_from at ds)
+start_from at [] = λ k d lt. absurd (omega (arith, lt))
+start_from at (d ∷ ds) =
+    All-cons (λ entity. at ≤ start_of entity) (entity_at at d) (entities_from (at + storage_units_by d.bounds) ds) (omega arith)
+    (λ k entity lt. let behind = start_from (at + storage_units_by d.bounds) ds k entity lt in omega arith)
+
+-- the units of each name lie in one region, that of the name
+lie_from : (total at : ℕ) (ds : List Declarator) → at + total_units ds ≤ total → All (LiesIn total (regions_from at ds)) (entities_from at ds)
 lie_from total at [] le = λ k d lt. absurd (omega (arith, lt))
 lie_from total at (d ∷ ds) le =
-    All-cons (LiesIn total) (entity_at at d) (entities_from (at + storage_units_by d.bounds) ds) (record { stored = refl; within = omega arith }) (lie_from total (at + storage_units_by d.bounds) ds (omega arith))
+    All-cons (LiesIn total (regions_from at (d ∷ ds))) (entity_at at d) (entities_from next ds)
+    (record {
+      within = λ stored. omega arith;
+      together = λ k stored less. first_region at d ds (at + k) (omega arith) (omega (arith, less)) ∙ sym (first_region at d ds at (omega arith) (omega (arith, less)));
+    })
+    (λ k other lt. behind (get_or (entities_from next ds) k other) (start_from next ds k other lt) (lie_from total next ds (omega arith) k other lt))
+  where
+    next : ℕ
+    next = at + storage_units_by d.bounds
+
+    behind : (entity : Entity) → next ≤ start_of entity → LiesIn total (regions_from next ds) entity → LiesIn total (regions_from at (d ∷ ds)) entity
+    behind entity low lies = record {
+      within = lies.within;
+      together = λ k stored less.
+          later_region at d ds (start_of entity + k) (omega arith)
+          ∙ ap (λ n. 1 + n) (lies.together k stored less)
+          ∙ sym (later_region at d ds (start_of entity) low);
+    }
+
+-- each address among the units of names lies in a region
+cover_from : (at : ℕ) (ds : List Declarator) (a : ℕ) → at ≤ a → a < at + total_units ds → region_at (regions_from at ds) a < length (regions_from at ds)
+cover_from at [] a low high = absurd (omega (arith, low, high))
+cover_from at (d ∷ ds) a low high = by (nat_lt a (at + storage_units_by d.bounds)) refl (λ behind. cover_from (at + storage_units_by d.bounds) ds a behind (omega (arith, high)))
+  where
+    by : (t : Bool) → nat_lt a (at + storage_units_by d.bounds) ≡ t → (at + storage_units_by d.bounds ≤ a → region_at (regions_from (at + storage_units_by d.bounds) ds) a < length (regions_from (at + storage_units_by d.bounds) ds)) → region_at (regions_from at (d ∷ ds)) a < length (regions_from at (d ∷ ds))
+    by true e rest = let first = first_region at d ds a low (grind (arith, e)) in omega (arith, first)
+    by false e rest =
+        let behind : at + storage_units_by d.bounds ≤ a = grind (arith, e) in
+        let later = later_region at d ds a behind in
+        let there = rest behind in
+        omega (arith, later, there)
 
 is_storage : (ds : List Declarator) → nat_le (total_units ds) most_storage_units ≡ true → IsStorage (layout_of ds)
 is_storage ds fits =
@@ -52,6 +102,7 @@ is_storage ds fits =
     record {
       total = sym l;
       lie = lie_from (length (replicate (total_units ds) (pos 0))) 0 ds (omega arith);
+      covered = λ address less. cover_from 0 ds address (omega arith) (omega arith);
       small = omega arith;
     }
 
@@ -230,25 +281,25 @@ next_kept loops ss one rest e = by (keeps loops ss one.stmt) e
     by false e = cc
 
 -- each statement is built and has a meaning in the layout of all
-abbrev Fine : Layout → Listed → Type 0
-Fine layout one = IsTrue (is_built one.stmt) × IsTrue (statement_has_meaning layout 0 one.stmt)
+abbrev Fine : List ProgramUnit → Layout → Listed → Type 0
+Fine units layout one = IsTrue (is_built one.stmt) × IsTrue (statement_has_meaning units layout 0 one.stmt)
 
 -- all names in the rest of the statements
 abbrev Rest : List Listed → List Declarator
 Rest listing = appearing (stmts listing)
 
-all_fine : (listing : List Listed) (loops : List Loop) (ss : List Stmt) → Kept ss → Sized ss → first_break loops ss listing ≡ None → All (Fine (layout_of (firsts (appearing ss ++ Rest listing)))) listing
-all_fine [] loops ss kept sized e = λ k d lt. absurd (omega (arith, lt))
-all_fine (one ∷ rest) loops ss kept sized e =
+all_fine : (units : List ProgramUnit) (listing : List Listed) (loops : List Loop) (ss : List Stmt) → Kept ss → Sized ss → first_break loops ss listing ≡ None → All (Fine units (layout_of (firsts (appearing ss ++ Rest listing)))) listing
+all_fine units [] loops ss kept sized e = λ k d lt. absurd (omega (arith, lt))
+all_fine units (one ∷ rest) loops ss kept sized e =
     let n = next_kept loops ss one rest e in
     let k = keeps_parts loops ss one.stmt n.0 in
     let kept' = kept_more ss one.stmt kept k.names k.small in
     let sized' = sized_more ss one.stmt sized k.names in
     let same : appearing (ss ++ one.stmt ∷ []) ++ Rest rest ≡ appearing ss ++ (appearing_in one.stmt ++ Rest rest) = ap (λ l. l ++ Rest rest) (appearing_more ss one.stmt) ∙ append_assoc (appearing ss) (appearing_in one.stmt) (Rest rest) in
-    subst (λ l. All (Fine (layout_of (firsts l))) (one ∷ rest)) same
-    (All-cons (Fine (layout_of (firsts (appearing (ss ++ one.stmt ∷ []) ++ Rest rest)))) one rest
-    (k.built, statement_by (layout_of (firsts (appearing (ss ++ one.stmt ∷ []) ++ Rest rest))) one.stmt k.built (statement_good ss one.stmt (Rest rest) kept' sized' k.names.mentioned))
-    (all_fine rest loops (ss ++ one.stmt ∷ []) kept' sized' n.1))
+    subst (λ l. All (Fine units (layout_of (firsts l))) (one ∷ rest)) same
+    (All-cons (Fine units (layout_of (firsts (appearing (ss ++ one.stmt ∷ []) ++ Rest rest)))) one rest
+    (k.built, statement_by units (layout_of (firsts (appearing (ss ++ one.stmt ∷ []) ++ Rest rest))) one.stmt k.built (statement_good ss one.stmt (Rest rest) kept' sized' k.names.mentioned))
+    (all_fine units rest loops (ss ++ one.stmt ∷ []) kept' sized' n.1))
 
 all_small : (listing : List Listed) (loops : List Loop) (ss : List Stmt) → small (appearing ss) ≡ true → first_break loops ss listing ≡ None → small (appearing (ss ++ stmts listing)) ≡ true
 all_small [] loops ss fits e = ap (λ l. small (appearing l)) (append-nil ss) ∙ fits
@@ -294,13 +345,13 @@ storage_law loops units layout e =
 pub laid_out_law : (loops : List Loop) (units : List ProgramUnit) (layout : Layout) → subset_of loops units ≡ Ok layout → IsLaidOut layout
 laid_out_law loops units layout e = let a = accepted loops units layout e in subst IsLaidOut a.laid (laid_out (firsts (appearing (stmts (listing_of units)))))
 
-fine_law : (loops : List Loop) (units : List ProgramUnit) (layout : Layout) → subset_of loops units ≡ Ok layout → All (Fine layout) (listing_of units)
+fine_law : (loops : List Loop) (units : List ProgramUnit) (layout : Layout) → subset_of loops units ≡ Ok layout → All (Fine units layout) (listing_of units)
 fine_law loops units layout e =
     let a = accepted loops units layout e in
-    subst (λ l. All (Fine l) (listing_of units)) a.laid (all_fine (listing_of units) loops [] none_kept refl a.kept)
+    subst (λ l. All (Fine units l) (listing_of units)) a.laid (all_fine units (listing_of units) loops [] none_kept refl a.kept)
 
 pub built_law : (loops : List Loop) (units : List ProgramUnit) (layout : Layout) → subset_of loops units ≡ Ok layout → All (λ listed. IsTrue (is_built listed.stmt)) (listing_of units)
-built_law loops units layout e = weaker (Fine layout) (λ listed. IsTrue (is_built listed.stmt)) (listing_of units) (λ x h. h.0) (fine_law loops units layout e)
+built_law loops units layout e = weaker (Fine units layout) (λ listed. IsTrue (is_built listed.stmt)) (listing_of units) (λ x h. h.0) (fine_law loops units layout e)
 
-pub meaning_law : (loops : List Loop) (units : List ProgramUnit) (layout : Layout) → subset_of loops units ≡ Ok layout → All (λ listed. IsTrue (statement_has_meaning layout 0 listed.stmt)) (listing_of units)
-meaning_law loops units layout e = weaker (Fine layout) (λ listed. IsTrue (statement_has_meaning layout 0 listed.stmt)) (listing_of units) (λ x h. h.1) (fine_law loops units layout e)
+pub meaning_law : (loops : List Loop) (units : List ProgramUnit) (layout : Layout) → subset_of loops units ≡ Ok layout → All (λ listed. IsTrue (statement_has_meaning units layout 0 listed.stmt)) (listing_of units)
+meaning_law loops units layout e = weaker (Fine units layout) (λ listed. IsTrue (statement_has_meaning units layout 0 listed.stmt)) (listing_of units) (λ x h. h.1) (fine_law loops units layout e)

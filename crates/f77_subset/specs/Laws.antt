@@ -25,4 +25,4 @@ StatementsAreBuilt =
 abbrev pub StatementsHaveMeaning : Type 0
 StatementsHaveMeaning =
     (loops : List Loop) (units : List ProgramUnit) (layout : Layout) → subset_of loops units ≡ Ok layout
-    → All (λ listed. IsTrue (statement_has_meaning layout 0 listed.stmt)) (listing_of units)
+    → All (λ listed. IsTrue (statement_has_meaning units layout 0 listed.stmt)) (listing_of units)

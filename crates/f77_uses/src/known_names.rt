@@ -1,5 +1,5 @@
 //! What the declarations of a unit say of its names.
-ghost use Rattle.std.specs.Prelude.{◌≡◌, ◌||◌, ℕ, List, Some, false, IfOk, OnOk, if◌then◌else◌};
+ghost use Rattle.std.specs.Prelude.{◌≡◌, ◌||◌, ℕ, List, Some, false, IfOk, OnOk, unwrap_or, if◌then◌else◌};
 ghost use Rattle.std.specs.Option.{is_some, option_copied, option_or};
 ghost use Rattle.f77_leaves.specs.Declarations as spec;
 ghost use Rattle.f77_leaves.specs.Meant.{meant_by};
@@ -139,6 +139,13 @@ impl KnownNames {
             again = either(again, second);
         }
         Ok(again)
+    }
+
+    /// What is known of a name: none where nothing is.
+    pub fn find(&self, name: &Name) -> Option<&Known>
+        ensures { unwrap_or (option_copied result) spec.unknown ≡ known_in self.now name.now }
+    {
+        self.map.get(name)
     }
 
     /// Whether a name has bounds.

@@ -4,8 +4,8 @@
 //! that a name is found in constant time. Then each statement is looked at by what the tables tell of the whole unit.
 #![tactic(auto)]
 
-mod breaks;
-mod copies;
+pub mod breaks;
+pub mod copies;
 mod doubles;
 mod facts;
 pub mod firsts;
@@ -13,7 +13,7 @@ pub mod known_names;
 pub mod letters;
 mod meaning;
 pub mod names;
-mod reals;
+pub mod reals;
 mod running;
 pub mod tables;
 pub mod unit_tables;

@@ -20,7 +20,7 @@ use hyb_base::no_memory::NoMemory;
 use std::alloc::Global;
 
 /// Whether a mention is of a name, and not of a common block's.
-fn is_name(role: Role) -> bool
+pub fn is_name(role: Role) -> bool
     ensures { result ≡ spec.is_name role }
 {
     match role {

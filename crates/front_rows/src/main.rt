@@ -1,8 +1,9 @@
 //! Cases of the front end, read from files and judged: what each source makes is shown, and compared with what is wanted.
 //!
 //! A file's name says what is shown of its cases: `cards.rows`, `exprs.rows`, `trees.rows`, `statements.rows`,
-//! `shape.rows`, `operands.rows`, `loops.rows` and `layout.rows`. A line for each file is printed, and each case that differs. The exit
-//! status is 1 where one differs or can't be read.
+//! `shape.rows`, `operands.rows`, `loops.rows`, `layout.rows`, `constants.rows`, `entities.rows`, `names.rows`, `uses.rows` and
+//! `kinds.rows`. A line for each file is printed, and each case that differs. The exit status is 1 where one differs or can't be
+//! read.
 #![tactic(auto)]
 
 mod case;

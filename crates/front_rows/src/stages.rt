@@ -2,10 +2,15 @@
 ghost use Rattle.std.specs.Prelude.{◌+◌, ◌^◌, ◌<◌, IsTrue};
 ghost use Rattle.f77_structure.specs.Units.{statement_count};
 
+use f77_ast::entities::Entities;
 use f77_ast::program::{Layout, Listed, Listing, Loops, Units};
 use f77_ast::refusal::{FrontError, Refusal};
 use f77_cards::cards::{Cards, cards};
+use f77_due::lacking::constants_break;
+use f77_kinds::kinds_break::kinds_break;
 use f77_loops::loops::loops;
+use f77_names::entities::entities_of;
+use f77_names::resolve::resolve;
 use f77_operands::limit::too_many_operands;
 use f77_shape::shape::shape;
 use f77_stmts::stmt::stmt;
@@ -115,10 +120,46 @@ pub fn layout_of(alloc: Global, source: &[u8]) -> Result<Layout, Unmade> {
     Ok(subset(alloc, &units, &loops)?)
 }
 
+/// The first statement of a source in which a constant is due, and there is none.
+pub fn due_of(alloc: Global, source: &[u8]) -> Result<(), Unmade> {
+    let units = units_of(alloc, source)?;
+    match constants_break(alloc, units.as_slice())? {
+        None => Ok(()),
+        Some(refusal) => Err(Unmade::Refused(refusal)),
+    }
+}
+
+/// The entities of a source.
+pub fn entities_in(alloc: Global, source: &[u8]) -> Result<Entities, Unmade> {
+    let units = units_of(alloc, source)?;
+    if units.len() > MOST_COUNTED {
+        return Err(Unmade::TooLarge);
+    }
+    Ok(entities_of(alloc, units.as_slice())?)
+}
+
+/// The entities of a source that keeps all rules on names.
+pub fn resolved_in(alloc: Global, source: &[u8]) -> Result<Entities, Unmade> {
+    let units = units_of(alloc, source)?;
+    if units.len() > MOST_COUNTED {
+        return Err(Unmade::TooLarge);
+    }
+    Ok(resolve(alloc, units.as_slice())?)
+}
+
 /// The first refusal of a source by the rules on declarations and uses of names.
 pub fn uses_of(alloc: Global, source: &[u8]) -> Result<(), Unmade> {
     let units = units_of(alloc, source)?;
     match names_break(alloc, units.as_slice())? {
+        None => Ok(()),
+        Some(refusal) => Err(Unmade::Refused(refusal)),
+    }
+}
+
+/// The first refusal of a source by the rules on kinds, and on numbers of subscripts and arguments.
+pub fn kinds_of(alloc: Global, source: &[u8]) -> Result<(), Unmade> {
+    let units = units_of(alloc, source)?;
+    match kinds_break(alloc, units.as_slice())? {
         None => Ok(()),
         Some(refusal) => Err(Unmade::Refused(refusal)),
     }

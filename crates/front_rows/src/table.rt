@@ -2,10 +2,13 @@
 
 use crate::case::Case;
 use crate::same::show_same;
-use crate::stages::{Unmade, cards_of, fitting_units_of, layout_of, loops_of, units_of, uses_of};
+use crate::stages::{
+    Unmade, cards_of, due_of, entities_in, fitting_units_of, kinds_of, layout_of, loops_of,
+    resolved_in, units_of, uses_of,
+};
 use crate::texts::{show_expr_of, show_need_of, show_stmt_of};
 use f77_shown::refusals::show_refusal;
-use f77_shown::tables::{show_card, show_layout, show_loop, show_unit};
+use f77_shown::tables::{show_card, show_layout, show_loop, show_resolved, show_unit};
 use hyb_base::bytes::Bytes;
 use hyb_base::no_memory::NoMemory;
 use std::alloc::Global;
@@ -30,8 +33,16 @@ pub enum Table {
     Loops,
     /// The places in storage of the names of a source.
     Layout,
+    /// Whether a source has constants where they are due.
+    Constants,
+    /// The entities of a source.
+    Entities,
+    /// Whether a source keeps all rules on names.
+    Names,
     /// Whether a source keeps the rules on declarations and uses of names.
     Uses,
+    /// Whether a source keeps the rules on kinds, and on numbers of subscripts and arguments.
+    Kinds,
 }
 
 impl Table {
@@ -46,7 +57,11 @@ impl Table {
             "operands.rows" => Some(Table::Operands),
             "loops.rows" => Some(Table::Loops),
             "layout.rows" => Some(Table::Layout),
+            "constants.rows" => Some(Table::Constants),
+            "entities.rows" => Some(Table::Entities),
+            "names.rows" => Some(Table::Names),
             "uses.rows" => Some(Table::Uses),
+            "kinds.rows" => Some(Table::Kinds),
             _ => None,
         }
     }
@@ -61,7 +76,11 @@ impl Table {
             | Table::Shape
             | Table::Loops
             | Table::Layout
-            | Table::Uses => false,
+            | Table::Constants
+            | Table::Entities
+            | Table::Names
+            | Table::Uses
+            | Table::Kinds => false,
         }
     }
 
@@ -76,7 +95,11 @@ impl Table {
             | Table::Shape
             | Table::Loops
             | Table::Layout
-            | Table::Uses => show_stmt_of(alloc, text, into)?,
+            | Table::Constants
+            | Table::Entities
+            | Table::Names
+            | Table::Uses
+            | Table::Kinds => show_stmt_of(alloc, text, into)?,
         }
         into.push(b'\n')
     }
@@ -89,7 +112,11 @@ impl Table {
             Table::Shape => show_shape(alloc, source, into),
             Table::Loops => show_loops(alloc, source, into),
             Table::Layout => show_places(alloc, source, into),
+            Table::Constants => show_due(alloc, source, into),
+            Table::Entities => show_entities(alloc, source, into),
+            Table::Names => show_names(alloc, source, into),
             Table::Uses => show_uses(alloc, source, into),
+            Table::Kinds => show_kinds(alloc, source, into),
             Table::Operands | Table::Exprs | Table::Statements => show_fits(alloc, source, into),
         }
     }
@@ -165,9 +192,38 @@ fn show_places(alloc: Global, source: &[u8], into: &mut Bytes) -> Result<(), Unm
     Ok(show_layout(&layout, into)?)
 }
 
+/// Shows that a source has constants where they are due.
+fn show_due(alloc: Global, source: &[u8], into: &mut Bytes) -> Result<(), Unmade> {
+    due_of(alloc, source)?;
+    Ok(into.push_slice(b"kept\n".as_slice())?)
+}
+
+/// Shows the entities of a source.
+fn show_entities(alloc: Global, source: &[u8], into: &mut Bytes) -> Result<(), Unmade> {
+    let entities = entities_in(alloc, source)?;
+    for place in 0..entities.len() {
+        if let Some(entity) = entities.get(place) {
+            show_resolved(entity, into)?;
+        }
+    }
+    Ok(show_none(entities.is_empty(), into)?)
+}
+
+/// Shows that a source keeps all rules on names.
+fn show_names(alloc: Global, source: &[u8], into: &mut Bytes) -> Result<(), Unmade> {
+    let _entities = resolved_in(alloc, source)?;
+    Ok(into.push_slice(b"kept\n".as_slice())?)
+}
+
 /// Shows that a source keeps the rules on declarations and uses of names.
 fn show_uses(alloc: Global, source: &[u8], into: &mut Bytes) -> Result<(), Unmade> {
     uses_of(alloc, source)?;
+    Ok(into.push_slice(b"kept\n".as_slice())?)
+}
+
+/// Shows that a source keeps the rules on kinds, and on numbers of subscripts and arguments.
+fn show_kinds(alloc: Global, source: &[u8], into: &mut Bytes) -> Result<(), Unmade> {
+    kinds_of(alloc, source)?;
     Ok(into.push_slice(b"kept\n".as_slice())?)
 }
 

@@ -1,6 +1,7 @@
 -- The definitions.
 pub mod Machine
 pub mod Asked
+pub mod Reads
 pub mod Live
 pub mod Places
 pub mod Running

@@ -1,9 +1,10 @@
 //! A live iteration, and one step of it.
-ghost use Rattle.std.specs.Prelude.{◌≡◌, ◌≢◌, ◌==◌, ◌<◌, ℕ, ℤ, IsTrue, length, true, if◌then◌else◌};
+ghost use Rattle.std.specs.Prelude.{◌≡◌, ◌≢◌, ◌==◌, ◌<◌, ℕ, ℤ, IsTrue, length, true, false, if◌then◌else◌};
 ghost use Rattle.interleaving.specs.Region.{answer_of, store_after, own_after};
 ghost use Rattle.region_run.specs.Asked.{asked_of, is_fault, IsRead, IsDone};
 ghost use Rattle.region_run.specs.Live.{iteration_of, outcome_from, finished_by, step_of};
 ghost use Rattle.region_run.specs.Machine.{operators, store_of_cells};
+ghost use Rattle.region_run.specs.Reads.{is_from_cell, reads_cell, with_read};
 
 use crate::asks::{Asked, Asks};
 use crate::rows::Rows;
@@ -39,6 +40,7 @@ impl<P: Asks> Live<P> {
             ≡ outcome_from result (store_of_cells (C.values cells.new)) (iteration_of P.meant (R.own rows.new) variable self.new) }
         ensures asked { result ≡ asked_of (P.fault program.now (P.meant self.old.process)) (P.event program.now (P.meant self.old.process)) }
         ensures is_of { P.is_of program.now self.new.process }
+        ensures counted { C.reads cells.new ≡ with_read (reads_cell variable (R.modes rows.old) (R.own rows.old self.old.row) result) (C.reads cells.old) }
         ensures same_length { length (C.values cells.new) ≡ length (C.values cells.old) }
         ensures same_test { C.may_get cells.new ≡ C.may_get cells.old }
         ensures others { (other : ℕ) → other ≢ self.old.row → R.own rows.new other ≡ R.own rows.old other }
@@ -78,6 +80,7 @@ impl<P: Asks> Live<P> {
         requires allowed { (a : ℕ) → IsTrue (C.may_get cells.old a) }
         ensures process { P.meant self.new.process ≡ P.resumed program.now (P.meant self.old.process) (if variable == address then self.old.value else answer_of operators (R.modes rows.old address) (store_of_cells (C.values cells.old) address) (R.own rows.old self.old.row address)) }
         ensures is_of { P.is_of program.now self.new.process }
+        ensures counted { C.reads cells.new ≡ with_read (if variable == address then false else is_from_cell (R.modes rows.old address) (R.own rows.old self.old.row address)) (C.reads cells.old) }
         ensures same_store { C.values cells.new ≡ C.values cells.old }
         ensures same_test { C.may_get cells.new ≡ C.may_get cells.old }
         ensures same_value { self.new.value ≡ self.old.value }
@@ -110,6 +113,7 @@ impl<P: Asks> Live<P> {
         ensures process { P.meant self.new.process ≡ P.done program.now (P.meant self.old.process) }
         ensures is_of { P.is_of program.now self.new.process }
         ensures store { store_of_cells (C.values cells.new) ≡ (if variable == address then store_of_cells (C.values cells.old) else store_after (R.modes rows.old address) (store_of_cells (C.values cells.old)) address value) }
+        ensures same_reads { C.reads cells.new ≡ C.reads cells.old }
         ensures same_length { length (C.values cells.new) ≡ length (C.values cells.old) }
         ensures same_test { C.may_get cells.new ≡ C.may_get cells.old }
         ensures value { self.new.value ≡ (if variable == address then value else self.old.value) }

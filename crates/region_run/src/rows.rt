@@ -4,6 +4,7 @@ ghost use Rattle.hyb_base.specs.declared.ops.RedOp.{RedOp};
 ghost use Rattle.interleaving.specs.Modes.{Mode};
 ghost use Rattle.interleaving.specs.Region.{answer_of, store_after, own_after, commit};
 ghost use Rattle.region_run.specs.Machine.{operators, store_of_cells};
+ghost use Rattle.region_run.specs.Reads.{is_from_cell, with_read};
 
 use hyb_base::cells::Cells;
 
@@ -24,6 +25,7 @@ pub trait Rows: Drop {
         requires held { address < length (C.values cells.old) }
         requires allowed { (a : ℕ) → IsTrue (C.may_get cells.old a) }
         ensures value { result ≡ answer_of operators (modes self.now address) (store_of_cells (C.values cells.old) address) (own self.now row address) }
+        ensures counted { C.reads cells.new ≡ with_read (is_from_cell (modes self.now address) (own self.now row address)) (C.reads cells.old) }
         ensures same_store { C.values cells.new ≡ C.values cells.old }
         ensures same_test { C.may_get cells.new ≡ C.may_get cells.old };
 
@@ -32,6 +34,7 @@ pub trait Rows: Drop {
         requires row { row < count self.old }
         requires held { address < length (C.values cells.old) }
         ensures store { store_of_cells (C.values cells.new) ≡ store_after (modes self.old address) (store_of_cells (C.values cells.old)) address value }
+        ensures same_reads { C.reads cells.new ≡ C.reads cells.old }
         ensures same_length { length (C.values cells.new) ≡ length (C.values cells.old) }
         ensures same_test { C.may_get cells.new ≡ C.may_get cells.old }
         ensures own { own self.new row ≡ own_after (modes self.old address) (own self.old row) address value }

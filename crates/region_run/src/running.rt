@@ -114,6 +114,7 @@ impl<P: Asks, R: Rows> Running<P, R> {
         ensures answer { result ≡ answer_to (P.event program.now) (P.fault program.now) P.line_of (picked (loop_machine P.event P.resumed P.done program.now) self.old.window (region_of P.meant (P.start program.now) R.own self.old (C.values cells.old)) pick) }
         ensures over { (result ≡ Over) ↔ (pending_of P.meant (P.start program.now) R.own self.old ≡ []) }
         ensures stays { has_run result ≡ false → region_of P.meant (P.start program.now) R.own self.new (C.values cells.new) ≡ region_of P.meant (P.start program.now) R.own self.old (C.values cells.old) }
+        ensures same_reads { has_run result ≡ false → C.reads cells.new ≡ C.reads cells.old }
         ensures running { IsRunning (P.is_of program.now) P.meant R.count R.own self.new }
         ensures same { SameLoop R.modes R.count self.old self.new }
         ensures same_total { R.total self.new.rows ≡ R.total self.old.rows }
@@ -147,6 +148,7 @@ impl<P: Asks, R: Rows> Running<P, R> {
         requires entry { P.meant main.old ≡ P.meant self.entry }
         requires held { self.variable < length (C.values cells.old) }
         ensures values { C.values cells.new ≡ slice_set (C.values cells.old) self.variable (P.start program.now (P.meant main.old) (trips_of self)).value }
+        ensures same_reads { C.reads cells.new ≡ C.reads cells.old }
         ensures main { P.meant main.new ≡ P.following program.now (P.meant main.old) }
         ensures is_of { P.is_of program.now main.new }
         ensures same_test { C.may_get cells.new ≡ C.may_get cells.old }
@@ -174,6 +176,7 @@ impl<P: Asks, R: Rows> Running<P, R> {
         ensures number { (number : ℕ) → number ≡ slice_index_or self.old.unfinished.items place number → number ≡ self.old.committed + index_at place (live_of P.meant R.own self.old) }
         ensures asked { (d : Iteration (Owner P.Meant ℤ) ℤ) → result ≡ asked_of (P.fault program.now (slice_index_or (live_of P.meant R.own self.old) (index_at place (live_of P.meant R.own self.old)) d).process.process) (P.event program.now (slice_index_or (live_of P.meant R.own self.old) (index_at place (live_of P.meant R.own self.old)) d).process.process) }
         ensures stays { is_fault result ≡ true → (live_of P.meant R.own self.new ≡ live_of P.meant R.own self.old) × (self.new.unfinished.items ≡ self.old.unfinished.items) × (C.values cells.new ≡ C.values cells.old) }
+        ensures same_reads { is_fault result ≡ true → C.reads cells.new ≡ C.reads cells.old }
         ensures first { is_end result ≡ false → is_first_finished self.new.live.items ≡ is_first_finished self.old.live.items }
         ensures same_committed { self.new.committed ≡ self.old.committed }
         ensures same_left { (self.new.left ≡ self.old.left) × (self.new.begun ≡ self.old.begun) }
@@ -201,6 +204,7 @@ impl<P: Asks, R: Rows> Running<P, R> {
         requires fits { P.total program.now ≡ length (C.values cells.old) }
         requires allowed { (a : ℕ) → IsTrue (C.may_get cells.old a) }
         ensures changed { ChangedAt self.old.live.items self.new.live.items at (DidStep (P.is_of program.now) P.meant (P.fault program.now) (P.event program.now) (P.resumed program.now) (P.done program.now) (R.modes self.old.rows) (R.own self.old.rows) (R.own self.new.rows) self.old.variable (C.values cells.old) (C.values cells.new) result) }
+        ensures same_reads { is_fault result ≡ true → C.reads cells.new ≡ C.reads cells.old }
         ensures same_length { length (C.values cells.new) ≡ length (C.values cells.old) }
         ensures same_test { C.may_get cells.new ≡ C.may_get cells.old }
         ensures same_modes { R.modes self.new.rows ≡ R.modes self.old.rows }

@@ -1,3 +1,3 @@
-pub mod Graphs
 pub mod Loops
+pub mod Statements
 pub mod Telling

@@ -1,39 +1,15 @@
 -- Nodes put together to the sets of a loop.
-use Rattle.std.proofs.Common.{◌≡◌, ◌↔◌, ℕ, ◌<◌, ℤ, pos, List, Option, Some, length, slice_set, Contains, sym, subst, ◌∙◌, arith}
-use Rattle.std.proofs.lemmas.List.{set-set, get_or-set_same}
-use Rattle.std.proofs.lemmas.Option.{unwrap_or-slice_get}
+use Rattle.std.proofs.Common.{◌↔◌, ℕ, ℤ, List, slice_set, Contains, arith}
 use Rattle.sym_lmad.specs.declared.sym.Sym.{Sym}
-use Rattle.uses.specs.Over.{Over, Before}
 use Rattle.usr_graph.specs.declared.node.Node.{Node}
 use Rattle.usr_graph.specs.declared.node.Node.TheVariants as n
 use Rattle.usr_graph.specs.declared.triple.Triple.{Triple}
 use Rattle.usr_graph.specs.Built.{Keeps, IsAdded}
-use Rattle.usr_graph.specs.Members.{Worth, Choice, Sets, IsMember, OverCount, index_value}
-use Rattle.usr_graph.proofs.Maps.{over_map, before_map}
-use Rattle.sum_algebra.specs.Rules.{IsIn, IsOver, IsOverLoop, AllRead, AllWritten, LoopWrittenFirst, LoopReadOnly}
-use Rattle.sum_algebra.proofs.Graphs.{both_ways, either_same, without_same, keeps_then}
-
-pub over_same : (m : ℤ) (p q : ℤ → Type 0) → ((i : ℤ) → p i ↔ q i) → Over m p ↔ Over m q
-over_same m p q f = (over_map m p q (λ i. (f i).0), over_map m q p (λ i. (f i).1))
-
-pub before_same : (m : ℤ) (p q : ℤ → Type 0) → ((i : ℤ) → p i ↔ q i) → Before m p ↔ Before m q
-before_same m p q f = (before_map m p q (λ i. (f i).0), before_map m q p (λ i. (f i).1))
-
--- a recurrence whose count has a value
-pub over_some : (c : Option ℤ) (m : ℤ) (at : ℤ → Type 0) (o : Type 0) → c ≡ Some m → OverCount c at o ↔ Over m at
-over_some c m at o e = subst (λ t. OverCount t at o ↔ Over m at) (sym e) (λ h. h, λ h. h)
-
--- the value of an index that is set
-pub index_set : (indices : List ℤ) (index : ℕ) (j : ℤ) → index < length indices → index_value (slice_set indices index j) index ≡ j
-index_set indices index j place = unwrap_or-slice_get (slice_set indices index j) index (pos 0) ∙ get_or-set_same indices index j (pos 0) place
-
--- what a node has at a value of an index that is below the value at hand
-pub before_at : (one two : List Node) (index body id : ℕ) → IsAdded one (n.Below index index body) two id → (worth : Worth) (choice : Choice) (indices : List ℤ) (j a : ℤ) → index < length indices →
-    IsMember worth choice two id (slice_set indices index j) a ↔ Before j (λ k. IsMember worth choice one body (slice_set indices index k) a)
-before_at one two index body id b worth choice indices j a place =
-    let at : List ℤ → Type 0 = λ xs. IsMember worth choice one body xs a in
-    let limit : IsMember worth choice two id (slice_set indices index j) a ↔ Before j (λ k. at (slice_set (slice_set indices index j) index k)) = subst (λ v. IsMember worth choice two id (slice_set indices index j) a ↔ Before v (λ k. at (slice_set (slice_set indices index j) index k))) (index_set indices index j place) (b.members worth choice (slice_set indices index j) a) in
-    both_ways _ _ _ limit (before_same j _ _ (λ k. (λ h. subst at (set-set indices index j k) h, λ h. subst at (sym (set-set indices index j k)) h)))
+use Rattle.usr_graph.specs.Members.{Worth, Choice, Sets, IsMember}
+use Rattle.usr_graph.specs.Triples.{IsIn}
+use Rattle.usr_graph.proofs.Graphs.{keeps_then}
+use Rattle.usr_graph.proofs.Sets.{both_ways, either_same, without_same, over_same, before_same, over_some, before_at}
+use Rattle.sum_algebra.specs.Rules.{IsOver, IsOverLoop, AllRead, AllWritten, LoopWrittenFirst, LoopReadOnly}
 
 pub all_read_is : (old one two : List Node) (index : ℕ) (count : Sym) (body : Triple) (either id : ℕ) → IsAdded old (n.Union body.ro body.rw) one either → IsAdded one (n.Recur index count either) two id → IsOver old index count (AllRead body index) two id
 all_read_is old one two index count body either id u o = record {

@@ -9,7 +9,8 @@ use Rattle.usr_graph.specs.declared.node.Cond.{Cond}
 use Rattle.usr_graph.specs.declared.node.Node.{Node}
 use Rattle.usr_graph.specs.declared.triple.Triple.{Triple}
 use Rattle.usr_graph.specs.Members.{IsMember, Holds, Where}
-use Rattle.sum_algebra.specs.Rules.{IsIn, IsThen, IsGated, IsOverLoop}
+use Rattle.usr_graph.specs.Triples.{IsIn}
+use Rattle.sum_algebra.specs.Rules.{IsThen, IsGated, IsOverLoop}
 use Rattle.sum_algebra.specs.Tell.{ThenTells, GatedTells, LoopTells}
 
 pub tells_same : (ro wf rw ro2 wf2 rw2 : Type 0) (u : Use) → ro2 ↔ ro → wf2 ↔ wf → rw2 ↔ rw → Tells ro wf rw u → Tells ro2 wf2 rw2 u

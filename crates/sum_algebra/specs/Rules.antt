@@ -1,18 +1,11 @@
 -- The sets that the rules make, over those of their arguments.
-use Rattle.std.specs.Prelude.{◌≡◌, ◌↔◌, ◌⊎◌, ℕ, ◌<◌, ℤ, Bool, true, ◌&&◌, nat_lt, List, Some, length, slice_set, Contains}
+use Rattle.std.specs.Prelude.{◌≡◌, ◌↔◌, ◌⊎◌, ℕ, ◌<◌, ℤ, List, Some, length, slice_set, Contains}
 use Rattle.sym_lmad.specs.declared.sym.Sym.{Sym}
 use Rattle.uses.specs.Over.{Over, Before}
 use Rattle.usr_graph.specs.declared.node.Cond.{Cond}
 use Rattle.usr_graph.specs.declared.node.Node.{Node}
 use Rattle.usr_graph.specs.declared.triple.Triple.{Triple}
-use Rattle.usr_graph.specs.Bounds.{symbol_bounded}
 use Rattle.usr_graph.specs.Members.{Worth, Choice, Sets, IsMember, Where}
-
--- the three sets of a triple are in a graph
-pub record IsIn (nodes : List Node) (t : Triple) : Type 0 where
-  pub ro : t.ro < length nodes
-  pub wf : t.wf < length nodes
-  pub rw : t.rw < length nodes
 
 -- ---- one after another
 
@@ -101,11 +94,3 @@ pub record IsOverLoop (old : List Node) (index : ℕ) (count : Sym) (body : Trip
   pub ro : IsOver old index count (LoopReadOnly body index) new t.ro
   pub wf : IsOver old index count (LoopWrittenFirst body index) new t.wf
   pub rw : IsOver old index count (LoopReadThenWritten body index) new t.rw
-
--- the names that a loop adds are below two bounds
-abbrev pub loop_bounded : (index : ℕ) → (count : Sym) → (entities indices : ℕ) → Bool
-loop_bounded index count entities indices = nat_lt index indices && symbol_bounded entities indices count
-
--- nothing is named
-abbrev pub nothing_named : (entities indices : ℕ) → Bool
-nothing_named entities indices = true

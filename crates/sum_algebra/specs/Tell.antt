@@ -1,15 +1,12 @@
 -- What the sets that the rules make tell of the use of an address.
 use Rattle.std.specs.Prelude.{◌≡◌, ℕ, ◌<◌, ℤ, pos, ◌≤ℤ◌, List, Some, length, slice_set}
 use Rattle.sym_lmad.specs.declared.sym.Sym.{Sym}
-use Rattle.uses.specs.Use.{Use, untouched, joined, joined_over, Tells}
+use Rattle.uses.specs.Use.{Use, untouched, joined, joined_over}
 use Rattle.usr_graph.specs.declared.node.Cond.{Cond}
 use Rattle.usr_graph.specs.declared.node.Node.{Node}
 use Rattle.usr_graph.specs.declared.triple.Triple.{Triple}
-use Rattle.usr_graph.specs.Members.{Worth, Choice, Sets, IsMember, Holds}
-
--- the three sets of a triple tell how an address is used
-abbrev pub TellsAt : Sets → Triple → (indices : List ℤ) → (a : ℤ) → Use → Type 0
-TellsAt sets t indices a use_ = Tells (sets t.ro indices a) (sets t.wf indices a) (sets t.rw indices a) use_
+use Rattle.usr_graph.specs.Members.{Worth, Choice, IsMember, Holds}
+use Rattle.usr_graph.specs.Triples.{TellsAt}
 
 -- one after another: by the product of the uses
 abbrev pub ThenTells : (old : List Node) (first later : Triple) (new : List Node) (t : Triple) → Type 0

@@ -1,8 +1,9 @@
 //! A statement under a condition.
 ghost use Rattle.std.specs.Prelude.{◌≡◌, ◌<◌, ◌≤◌, ◌+◌, length, IfOk};
-ghost use Rattle.usr_graph.specs.Bounds.{StayBounded, cond_bounded};
 ghost use Rattle.usr_graph.specs.Built.{Keeps};
-ghost use Rattle.sum_algebra.specs.Rules.{IsIn, IsGate, IsGated};
+ghost use Rattle.usr_graph.specs.Names.{OnlyNames, cond_named};
+ghost use Rattle.usr_graph.specs.Triples.{IsIn};
+ghost use Rattle.sum_algebra.specs.Rules.{IsGate, IsGated};
 ghost use Rattle.sum_algebra.specs.Tell.{GatedTells};
 
 use hyb_base::no_memory::NoMemory;
@@ -18,7 +19,7 @@ fn gate(graph: &mut Graph, cond: Cond, body: NodeId) -> Result<NodeId, NoMemory>
     ensures ok { IfOk result (λ id. IsGate graph.old cond body graph.new id) }
     ensures keeps { Keeps graph.old graph.new }
     ensures few { length graph.new ≤ length graph.old + 1 }
-    ensures bounded { StayBounded (λ entities indices. cond_bounded entities indices cond) graph.old graph.new }
+    ensures names { OnlyNames (cond_named cond) graph.old graph.new }
 {
     graph.add(Node::Gate(cond, body))
 }
@@ -29,7 +30,7 @@ fn gates(alloc: Global, graph: &mut Graph, cond: Cond, body: &Triple) -> Result<
     ensures ok { IfOk result (λ t. IsGated graph.old cond body.now graph.new t) }
     ensures keeps { Keeps graph.old graph.new }
     ensures few { length graph.new ≤ length graph.old + 3 }
-    ensures bounded { StayBounded (λ entities indices. cond_bounded entities indices cond) graph.old graph.new }
+    ensures names { OnlyNames (cond_named cond) graph.old graph.new }
 {
     let of_ro = copy_cond(alloc, &cond)?;
     let of_wf = copy_cond(alloc, &cond)?;
@@ -53,7 +54,7 @@ pub fn gated(
     ensures uses { IfOk result (λ t. GatedTells graph.old cond body.now graph.new t) }
     ensures keeps { Keeps graph.old graph.new }
     ensures few { length graph.new ≤ length graph.old + 3 }
-    ensures bounded { StayBounded (λ entities indices. cond_bounded entities indices cond) graph.old graph.new }
+    ensures names { OnlyNames (cond_named cond) graph.old graph.new }
 {
     gates(alloc, graph, cond, body)
 }

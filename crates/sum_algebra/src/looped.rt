@@ -1,8 +1,9 @@
 //! A loop.
 ghost use Rattle.std.specs.Prelude.{◌≡◌, ◌<◌, ◌≤◌, ◌+◌, length, IfOk};
-ghost use Rattle.usr_graph.specs.Bounds.{StayBounded};
 ghost use Rattle.usr_graph.specs.Built.{Keeps};
-ghost use Rattle.sum_algebra.specs.Rules.{IsIn, IsOver, IsOverLoop, AllRead, AllWritten, LoopWrittenFirst, loop_bounded};
+ghost use Rattle.usr_graph.specs.Names.{OnlyNames, loop_named};
+ghost use Rattle.usr_graph.specs.Triples.{IsIn};
+ghost use Rattle.sum_algebra.specs.Rules.{IsOver, IsOverLoop, AllRead, AllWritten, LoopWrittenFirst};
 ghost use Rattle.sum_algebra.specs.Tell.{LoopTells};
 
 use hyb_base::no_memory::NoMemory;
@@ -19,7 +20,7 @@ fn all_read(graph: &mut Graph, index: u32, count: Sym, body: &Triple) -> Result<
     ensures ok { IfOk result (λ id. IsOver graph.old index count (AllRead body.now index) graph.new id) }
     ensures keeps { Keeps graph.old graph.new }
     ensures few { length graph.new ≤ length graph.old + 2 }
-    ensures bounded { StayBounded (loop_bounded index count) graph.old graph.new }
+    ensures names { OnlyNames (loop_named index count) graph.old graph.new }
 {
     let body = graph.add(Node::Union(body.ro, body.rw))?;
     graph.add(Node::Recur { index, count, body })
@@ -31,7 +32,7 @@ fn all_written(graph: &mut Graph, index: u32, count: Sym, body: &Triple) -> Resu
     ensures ok { IfOk result (λ id. IsOver graph.old index count (AllWritten body.now index) graph.new id) }
     ensures keeps { Keeps graph.old graph.new }
     ensures few { length graph.new ≤ length graph.old + 2 }
-    ensures bounded { StayBounded (loop_bounded index count) graph.old graph.new }
+    ensures names { OnlyNames (loop_named index count) graph.old graph.new }
 {
     let body = graph.add(Node::Union(body.wf, body.rw))?;
     graph.add(Node::Recur { index, count, body })
@@ -48,7 +49,7 @@ fn written_first(
     ensures ok { IfOk result (λ id. IsOver graph.old index count (LoopWrittenFirst body.now index) graph.new id) }
     ensures keeps { Keeps graph.old graph.new }
     ensures few { length graph.new ≤ length graph.old + 4 }
-    ensures bounded { StayBounded (loop_bounded index count) graph.old graph.new }
+    ensures names { OnlyNames (loop_named index count) graph.old graph.new }
 {
     let read = graph.add(Node::Union(body.ro, body.rw))?;
     let before = graph.add(Node::Below {
@@ -76,7 +77,7 @@ fn repeat(
     ensures ok { IfOk result (λ t. IsOverLoop graph.old index count body.now graph.new t) }
     ensures keeps { Keeps graph.old graph.new }
     ensures few { length graph.new ≤ length graph.old + 10 }
-    ensures bounded { StayBounded (loop_bounded index count) graph.old graph.new }
+    ensures names { OnlyNames (loop_named index count) graph.old graph.new }
 {
     let of_reads = copy(alloc, &count)?;
     let of_writes = copy(alloc, &count)?;
@@ -103,7 +104,7 @@ pub fn over_loop(
     ensures uses { IfOk result (λ t. LoopTells graph.old index count body.now graph.new t) }
     ensures keeps { Keeps graph.old graph.new }
     ensures few { length graph.new ≤ length graph.old + 10 }
-    ensures bounded { StayBounded (loop_bounded index count) graph.old graph.new }
+    ensures names { OnlyNames (loop_named index count) graph.old graph.new }
 {
     repeat(alloc, graph, index, count, body)
 }

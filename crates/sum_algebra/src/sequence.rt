@@ -1,8 +1,9 @@
 //! Statements one after another.
 ghost use Rattle.std.specs.Prelude.{◌≤◌, ◌+◌, length, IfOk};
-ghost use Rattle.usr_graph.specs.Bounds.{StayBounded};
 ghost use Rattle.usr_graph.specs.Built.{Keeps};
-ghost use Rattle.sum_algebra.specs.Rules.{IsIn, IsReadOnly, IsWrittenFirst, IsReadThenWritten, IsThen, nothing_named};
+ghost use Rattle.usr_graph.specs.Names.{OnlyNames, nothing_named};
+ghost use Rattle.usr_graph.specs.Triples.{IsIn};
+ghost use Rattle.sum_algebra.specs.Rules.{IsReadOnly, IsWrittenFirst, IsReadThenWritten, IsThen};
 ghost use Rattle.sum_algebra.specs.Tell.{ThenTells};
 
 use hyb_base::no_memory::NoMemory;
@@ -17,7 +18,7 @@ fn read_only(graph: &mut Graph, first: &Triple, later: &Triple) -> Result<NodeId
     ensures ok { IfOk result (λ id. IsReadOnly graph.old first.now later.now graph.new id) }
     ensures keeps { Keeps graph.old graph.new }
     ensures few { length graph.new ≤ length graph.old + 5 }
-    ensures bounded { StayBounded nothing_named graph.old graph.new }
+    ensures names { OnlyNames nothing_named graph.old graph.new }
 {
     let written_later = graph.add(Node::Union(later.wf, later.rw))?;
     let of_first = graph.add(Node::Minus(first.ro, written_later))?;
@@ -33,7 +34,7 @@ fn written_first(graph: &mut Graph, first: &Triple, later: &Triple) -> Result<No
     ensures ok { IfOk result (λ id. IsWrittenFirst graph.old first.now later.now graph.new id) }
     ensures keeps { Keeps graph.old graph.new }
     ensures few { length graph.new ≤ length graph.old + 3 }
-    ensures bounded { StayBounded nothing_named graph.old graph.new }
+    ensures names { OnlyNames nothing_named graph.old graph.new }
 {
     let read = graph.add(Node::Union(first.ro, first.rw))?;
     let of_later = graph.add(Node::Minus(later.wf, read))?;
@@ -47,7 +48,7 @@ fn read_then_written(graph: &mut Graph, first: &Triple, later: &Triple) -> Resul
     ensures ok { IfOk result (λ id. IsReadThenWritten graph.old first.now later.now graph.new id) }
     ensures keeps { Keeps graph.old graph.new }
     ensures few { length graph.new ≤ length graph.old + 4 }
-    ensures bounded { StayBounded nothing_named graph.old graph.new }
+    ensures names { OnlyNames nothing_named graph.old graph.new }
 {
     let of_later = graph.add(Node::Minus(later.rw, first.wf))?;
     let of_both = graph.add(Node::Inter(first.ro, later.wf))?;
@@ -62,7 +63,7 @@ fn sequence(graph: &mut Graph, first: &Triple, later: &Triple) -> Result<Triple,
     ensures ok { IfOk result (λ t. IsThen graph.old first.now later.now graph.new t) }
     ensures keeps { Keeps graph.old graph.new }
     ensures few { length graph.new ≤ length graph.old + 12 }
-    ensures bounded { StayBounded nothing_named graph.old graph.new }
+    ensures names { OnlyNames nothing_named graph.old graph.new }
 {
     let ro = read_only(graph, first, later)?;
     let wf = written_first(graph, first, later)?;
@@ -80,7 +81,7 @@ pub fn then(graph: &mut Graph, first: &Triple, later: &Triple) -> Result<Triple,
     ensures uses { IfOk result (λ t. ThenTells graph.old first.now later.now graph.new t) }
     ensures keeps { Keeps graph.old graph.new }
     ensures few { length graph.new ≤ length graph.old + 12 }
-    ensures bounded { StayBounded nothing_named graph.old graph.new }
+    ensures names { OnlyNames nothing_named graph.old graph.new }
 {
     sequence(graph, first, later)
 }

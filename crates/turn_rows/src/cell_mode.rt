@@ -1,11 +1,11 @@
 //! How iterations use a cell.
 ghost use Rattle.std.specs.Prelude.{◌≡◌};
-ghost use Rattle.interleaving.specs.Region.{answer_of, merged};
+ghost use Rattle.interleaving.specs.Region.{merged};
 ghost use Rattle.region_run.specs.Machine.{operators};
 ghost use Rattle.turn_rows.specs.CellModes.{mode_of};
 
 use hyb_base::ops::RedOp;
-use red_ops::{apply, identity};
+use red_ops::apply;
 
 /// How iterations use a cell.
 #[derive(Clone, Copy)]
@@ -19,17 +19,6 @@ pub enum CellMode {
 }
 
 impl CellMode {
-    /// What a read answers, by the value of the cell and the iteration's own.
-    pub fn answer(self, value: i64, own: Option<i64>) -> i64
-        ensures { result ≡ answer_of operators (mode_of self) value own }
-    {
-        match self {
-            CellMode::Shared => value,
-            CellMode::Private => own.unwrap_or(value),
-            CellMode::Reduce(op) => own.unwrap_or(identity(op)),
-        }
-    }
-
     /// The value of a cell after a commit, by its value before and the iteration's own.
     pub fn merged(self, value: i64, own: Option<i64>) -> i64
         ensures { result ≡ merged operators (mode_of self) value own }

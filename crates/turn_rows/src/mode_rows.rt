@@ -5,6 +5,7 @@ use crate::cell_mode::CellMode;
 use crate::own_row::{OwnRow, empty_rows};
 use hyb_base::cells::Cells;
 use hyb_base::no_memory::NoMemory;
+use red_ops::identity;
 use region_run::rows::Rows;
 use std::alloc::Global;
 
@@ -91,8 +92,17 @@ impl Rows for ModeRows {
     ghost own = { own_in };
 
     fn read<C: Cells>(&self, row: u32, address: u32, cells: &mut C) -> i64 {
-        let own = self.rows[row as usize].get(address);
-        self.mode(address).answer(cells.get(address), own)
+        match self.mode(address) {
+            CellMode::Shared => cells.get(address),
+            CellMode::Private => match self.rows[row as usize].get(address) {
+                None => cells.get(address),
+                Some(copy) => copy,
+            },
+            CellMode::Reduce(op) => match self.rows[row as usize].get(address) {
+                None => identity(op),
+                Some(partial) => partial,
+            },
+        }
     }
 
     fn write<C: Cells>(&mut self, row: u32, address: u32, value: i64, cells: &mut C) {

@@ -5,11 +5,14 @@ use Rattle.std.proofs.lemmas.Bool.Decides.{nat_tests}
 use Rattle.std.proofs.lemmas.List.{reverse-append, reverse-reverse, length-reverse}
 use Rattle.usr_graph.specs.declared.node.Node.{Node}
 use Rattle.usr_graph.specs.declared.node.Node.TheVariants as n
+use Rattle.usr_graph.specs.declared.triple.Triple.{Triple}
 use Rattle.usr_graph.specs.Built.{Keeps, IsAdded, IsNodeOf}
 use Rattle.usr_graph.specs.Members.{Worth, Choice, Sets, IsOf, one_of, sets_of, IsMember, OlderNodesKeepTheirMembers, index_value}
 use Rattle.usr_graph.specs.Nodes.{ChildrenBelow, HaveEarlierChildren}
+use Rattle.usr_graph.specs.Triples.{IsIn}
 use Rattle.usr_graph.proofs.Maps.{before_map, where_map, count_map}
 use Rattle.usr_graph.proofs.Places.{get_push, get_first, get_within, children_typed}
+use Rattle.usr_graph.proofs.Sets.{both_ways}
 
 -- two families of sets are the same of the first numbers
 record Agree (first : ℕ) (p q : Sets) : Type 0 where
@@ -51,9 +54,6 @@ module _ (worth : Worth) (choice : Choice) where
       go true e = (λ h. h, λ h. h)
       go false e = absurd (eqb-false id (length older) e h)
 
-  both_ways : (p q r : Type 0) → p ↔ q → q ↔ r → p ↔ r
-  both_ways p q r f g = (λ h. g.0 (f.0 h), λ h. f.1 (g.1 h))
-
   at_place : (rs : List Node) → HaveEarlierChildren (reverse rs) → (id : ℕ) (node : Node) → slice_get (reverse rs) id ≡ Some node → (indices : List ℤ) (a : ℤ) → sets_of worth choice rs id indices a ↔ IsOf worth choice (sets_of worth choice rs) id node indices a
   at_place [] earlier id node h indices a = absurd (cc)
   at_place (r ∷ rs) earlier id node h indices a = go (get_push (reverse rs) r id node (subst (λ l. slice_get l id ≡ Some node) split h)) (λ k. at_place rs before id node k indices a)
@@ -91,10 +91,20 @@ older_nodes_keep worth choice nodes node id indices a h = subst (λ rs. sets_of 
     ((older_same worth choice node (reverse nodes)).same id indices a (subst (λ m. id < m) (sym (length-reverse nodes)) h))
 
 pub keeps_itself : (nodes : List Node) → Keeps nodes nodes
-keeps_itself nodes = record { longer = omega arith; same = λ worth choice id indices a low. (λ h. h, λ h. h) }
+keeps_itself nodes = record { longer = omega arith; spelled = λ id node h. h; same = λ worth choice id indices a low. (λ h. h, λ h. h) }
 
 pub push_keeps : (nodes : List Node) (node : Node) → Keeps nodes (nodes ++ node ∷ [])
-push_keeps nodes node = record { longer = omega (arith, length-append nodes (node ∷ [])); same = λ worth choice id indices a low. older_nodes_keep worth choice nodes node id indices a low }
+push_keeps nodes node = record { longer = omega (arith, length-append nodes (node ∷ [])); spelled = λ id x h. get_first nodes (node ∷ []) id x h; same = λ worth choice id indices a low. older_nodes_keep worth choice nodes node id indices a low }
+
+pub keeps_then : (one two three : List Node) → Keeps one two → Keeps two three → Keeps one three
+keeps_then one two three k m = record {
+  longer = omega (arith, k.longer, m.longer);
+  spelled = λ id node h. m.spelled id node (k.spelled id node h);
+  same = λ worth choice id indices a low. both_ways _ _ _ (m.same worth choice id indices a (omega (arith, k.longer, low))) (k.same worth choice id indices a low);
+}
+
+pub is_in_later : (old new : List Node) (t : Triple) → Keeps old new → IsIn old t → IsIn new t
+is_in_later old new t k i = record { ro = omega (arith, i.ro, k.longer); wf = omega (arith, i.wf, k.longer); rw = omega (arith, i.rw, k.longer) }
 
 pub push_adds : (nodes : List Node) (node : Node) → IsAdded nodes node (nodes ++ node ∷ []) (length nodes)
 push_adds nodes node = record {

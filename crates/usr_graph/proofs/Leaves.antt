@@ -3,10 +3,10 @@ use Rattle.std.proofs.Common.{◌≡◌, ◌↔◌, ℕ, ℤ, Bool, true, false,
 use Rattle.sym_lmad.specs.declared.sym.Sym.{Sym}
 use Rattle.usr_graph.specs.declared.node.Node.{Node}
 use Rattle.usr_graph.specs.declared.node.Node.TheVariants.{Leaf}
-use Rattle.usr_graph.specs.Bounds.{StayBounded, node_bounded, symbol_bounded}
 use Rattle.usr_graph.specs.Built.{IsAdded}
 use Rattle.usr_graph.specs.Leaf.{AtAddress, IsUnit}
 use Rattle.usr_graph.specs.Members.{OfPlace, place_by}
+use Rattle.usr_graph.specs.Names.{OnlyNames, node_named, symbol_named}
 
 at_address : (v : Option ℤ) (a : ℤ) (o : Type 0) → OfPlace (place_by v (Some [])) a o ↔ AtAddress v a o
 at_address None a o = (λ h. h, λ h. h)
@@ -25,5 +25,5 @@ and_true : (b : Bool) → b ≡ true → (b && true) ≡ true
 and_true true h = refl
 and_true false h = h
 
-pub unit_bounded : (old new : List Node) (address : Sym) → StayBounded (λ entities indices. node_bounded entities indices (Leaf (record { base = address; dims = [] }))) old new → StayBounded (λ entities indices. symbol_bounded entities indices address) old new
-unit_bounded old new address h = record { bounded = λ entities indices g k. h.bounded entities indices g (and_true (symbol_bounded entities indices address) k) }
+pub unit_names : (old new : List Node) (address : Sym) → OnlyNames (node_named (Leaf (record { base = address; dims = [] }))) old new → OnlyNames (symbol_named address) old new
+unit_names old new address h = record { pass = λ symbols indices first g k. h.pass symbols indices first g (and_true (symbols address) k) }

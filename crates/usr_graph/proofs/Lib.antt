@@ -1,8 +1,9 @@
-pub mod Bounded
 pub mod Choices
 pub mod Graphs
 pub mod Leaves
 pub mod Lists
 pub mod Maps
+pub mod Naming
 pub mod Places
 pub mod Runs
+pub mod Sets

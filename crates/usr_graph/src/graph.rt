@@ -31,7 +31,7 @@ impl Model for Graph {
 impl Graph {
     ghost use Rattle.usr_graph.specs.Nodes.{ChildrenBelow};
     ghost use Rattle.usr_graph.specs.Built.{Keeps, IsAdded, IsNodeOf};
-    ghost use Rattle.usr_graph.specs.Bounds.{StayBounded, node_bounded};
+    ghost use Rattle.usr_graph.specs.Names.{OnlyNames, node_named};
 
     /// No node. It takes no memory.
     pub fn new(alloc: Global) -> Graph
@@ -42,9 +42,10 @@ impl Graph {
         }
     }
 
-    /// Adds a node, whose children are in the graph, and gives its number. Older nodes keep their numbers and members.
+    /// Adds a node, whose children are in the graph, and gives its number. Older nodes stay as they are, with their numbers and
+    /// members.
     /// After an error the graph is as before.
-    #[tactic(auto, using(crate::proofs::Places::earlier_push, crate::proofs::Graphs::push_keeps, crate::proofs::Graphs::push_adds, crate::proofs::Bounded::push_bounded))]
+    #[tactic(auto, using(crate::proofs::Places::earlier_push, crate::proofs::Graphs::push_keeps, crate::proofs::Graphs::push_adds, crate::proofs::Naming::push_names))]
     pub fn add(&mut self, node: Node) -> Result<NodeId, NoMemory>
         requires { ChildrenBelow (length self.old) node }
         ensures ok { OnOk result (self.new ≡ self.old ++ node ∷ []) }
@@ -53,7 +54,7 @@ impl Graph {
         ensures keeps { Keeps self.old self.new }
         ensures few { length self.new ≤ length self.old + 1 }
         ensures added { IfOk result (λ id. IsAdded self.old node self.new id) }
-        ensures bounded { StayBounded (λ entities indices. node_bounded entities indices node) self.old self.new }
+        ensures names { OnlyNames (node_named node) self.old self.new }
     {
         let id = self.nodes.len();
         self.nodes.push(node)?;

@@ -1,7 +1,6 @@
 use Rattle.std.proofs.Common.{subst}
-use Rattle.usr_graph.specs.Bounds.{StayBounded}
-use Rattle.sum_algebra.specs.Rules.{loop_bounded}
-use Rattle.sum_algebra.proofs.Graphs.{bounded_later}
+use Rattle.usr_graph.specs.Names.{OnlyNames, loop_named}
+use Rattle.usr_graph.proofs.Naming.{names_later}
 use Rattle.dep_eqs.specs.Equations.{IsPairs}
 use Rattle.dep_eqs.proofs.Pairs.{equations_are}
 use Rattle.dep_eqs.proofs.equations.all_pairs.Goals as goal
@@ -14,29 +13,29 @@ returns-clause-ok c =
     c.pairs-2.ensures.keeps (subst (λ n. IsPairs c.pairs.new.graph c.args.index n (t.ro, t.rw) (t.wf, t.rw) c.pairs-2.new.graph c.in_ok-anti.anti) c.in_ok-of_anti.ensures c.in_ok-anti.ensures.ok)
     c.pairs-3.ensures.keeps c.in_ok-output.ensures.ok
 
-pub returns-in_err-anti-clause-bounded : goal.returns-in_err-anti-clause-bounded
-returns-in_err-anti-clause-bounded c =
-    let put = loop_bounded c.args.index c.args.count in
+pub returns-in_err-anti-clause-names : goal.returns-in_err-anti-clause-names
+returns-in_err-anti-clause-names c =
+    let given = loop_named c.args.index c.args.count in
     let old = c.args.graph.now in
-    let one = subst (λ n. StayBounded (loop_bounded c.args.index n) old c.pairs.new.graph) c.in_ok-of_flow.ensures c.pairs.ensures.bounded in
-    let two = subst (λ n. StayBounded (loop_bounded c.args.index n) c.pairs.new.graph c.pairs-2.new.graph) c.in_ok-of_anti.ensures c.pairs-2.ensures.bounded in
-    let both = bounded_later put old c.pairs.new.graph c.pairs-2.new.graph one two in
+    let one = subst (λ n. OnlyNames (loop_named c.args.index n) old c.pairs.new.graph) c.in_ok-of_flow.ensures c.pairs.ensures.names in
+    let two = subst (λ n. OnlyNames (loop_named c.args.index n) c.pairs.new.graph c.pairs-2.new.graph) c.in_ok-of_anti.ensures c.pairs-2.ensures.names in
+    let both = names_later given old c.pairs.new.graph c.pairs-2.new.graph one two in
     both
 
-pub returns-in_err-output-clause-bounded : goal.returns-in_err-output-clause-bounded
-returns-in_err-output-clause-bounded c =
-    let put = loop_bounded c.args.index c.args.count in
+pub returns-in_err-output-clause-names : goal.returns-in_err-output-clause-names
+returns-in_err-output-clause-names c =
+    let given = loop_named c.args.index c.args.count in
     let old = c.args.graph.now in
-    let one = subst (λ n. StayBounded (loop_bounded c.args.index n) old c.pairs.new.graph) c.in_ok-of_flow.ensures c.pairs.ensures.bounded in
-    let two = subst (λ n. StayBounded (loop_bounded c.args.index n) c.pairs.new.graph c.pairs-2.new.graph) c.in_ok-of_anti.ensures c.pairs-2.ensures.bounded in
-    let both = bounded_later put old c.pairs.new.graph c.pairs-2.new.graph one two in
-    bounded_later put old c.pairs-2.new.graph c.pairs-3.new.graph both c.pairs-3.ensures.bounded
+    let one = subst (λ n. OnlyNames (loop_named c.args.index n) old c.pairs.new.graph) c.in_ok-of_flow.ensures c.pairs.ensures.names in
+    let two = subst (λ n. OnlyNames (loop_named c.args.index n) c.pairs.new.graph c.pairs-2.new.graph) c.in_ok-of_anti.ensures c.pairs-2.ensures.names in
+    let both = names_later given old c.pairs.new.graph c.pairs-2.new.graph one two in
+    names_later given old c.pairs-2.new.graph c.pairs-3.new.graph both c.pairs-3.ensures.names
 
-pub returns-clause-bounded : goal.returns-clause-bounded
-returns-clause-bounded c =
-    let put = loop_bounded c.args.index c.args.count in
+pub returns-clause-names : goal.returns-clause-names
+returns-clause-names c =
+    let given = loop_named c.args.index c.args.count in
     let old = c.args.graph.now in
-    let one = subst (λ n. StayBounded (loop_bounded c.args.index n) old c.pairs.new.graph) c.in_ok-of_flow.ensures c.pairs.ensures.bounded in
-    let two = subst (λ n. StayBounded (loop_bounded c.args.index n) c.pairs.new.graph c.pairs-2.new.graph) c.in_ok-of_anti.ensures c.pairs-2.ensures.bounded in
-    let both = bounded_later put old c.pairs.new.graph c.pairs-2.new.graph one two in
-    bounded_later put old c.pairs-2.new.graph c.pairs-3.new.graph both c.pairs-3.ensures.bounded
+    let one = subst (λ n. OnlyNames (loop_named c.args.index n) old c.pairs.new.graph) c.in_ok-of_flow.ensures c.pairs.ensures.names in
+    let two = subst (λ n. OnlyNames (loop_named c.args.index n) c.pairs.new.graph c.pairs-2.new.graph) c.in_ok-of_anti.ensures c.pairs-2.ensures.names in
+    let both = names_later given old c.pairs.new.graph c.pairs-2.new.graph one two in
+    names_later given old c.pairs-2.new.graph c.pairs-3.new.graph both c.pairs-3.ensures.names

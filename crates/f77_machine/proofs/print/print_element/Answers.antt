@@ -1,4 +1,4 @@
-use Rattle.std.proofs.Common.{◌≡◌, ◌∷◌, ◌+◌, ◌-◌, ◌<◌, ◌∙◌, None, Some, ap, sym, rules, arith}
+use Rattle.std.proofs.Common.{◌≡◌, ◌+◌, ◌-◌, ◌<◌, ◌∙◌, None, Some, ap, sym, rules, arith}
 use Rattle.hyb_base.specs.Decimal.{decimal_of}
 use Rattle.f77_structure.specs.Storage.{elements_of}
 use Rattle.f77_io.specs.Line.{text_of}

@@ -1,6 +1,6 @@
-use Rattle.sum_algebra.proofs.Graphs.{on_ok}
+use Rattle.std.proofs.lemmas.Result.{IfOk-weaker}
 use Rattle.sum_algebra.proofs.Loops.{all_written_is}
 use Rattle.sum_algebra.proofs.looped.all_written.Goals as goal
 
 pub returns-clause-ok : goal.returns-clause-ok
-returns-clause-ok c = on_ok c.add-2.result _ _ (λ id h. all_written_is c.args.graph.now c.add.new.self c.add-2.new.self c.args.index c.args.count c.args.body.now c.in_ok-body.body id c.in_ok-body.ensures.added h) c.add-2.ensures.added
+returns-clause-ok c = IfOk-weaker c.add-2.result _ _ (λ id h. all_written_is c.args.graph.now c.add.new.self c.add-2.new.self c.args.index c.args.count c.args.body.now c.in_ok-body.body id c.in_ok-body.ensures.added h) c.add-2.ensures.added

@@ -1,12 +1,12 @@
-use Rattle.sum_algebra.specs.Rules.{nothing_named}
-use Rattle.sum_algebra.proofs.Graphs.{bounded_later}
+use Rattle.usr_graph.specs.Names.{nothing_named}
+use Rattle.usr_graph.proofs.Naming.{names_later}
 use Rattle.sum_algebra.proofs.sequence.sequence.Goals as goal
 
-pub returns-in_err-wf-clause-bounded : goal.returns-in_err-wf-clause-bounded
-returns-in_err-wf-clause-bounded c = bounded_later nothing_named c.args.graph.now c.read_only.new.graph c.written_first.new.graph c.read_only.ensures.bounded c.written_first.ensures.bounded
+pub returns-in_err-wf-clause-names : goal.returns-in_err-wf-clause-names
+returns-in_err-wf-clause-names c = names_later nothing_named c.args.graph.now c.read_only.new.graph c.written_first.new.graph c.read_only.ensures.names c.written_first.ensures.names
 
-pub returns-in_err-rw-clause-bounded : goal.returns-in_err-rw-clause-bounded
-returns-in_err-rw-clause-bounded c = bounded_later nothing_named c.args.graph.now c.written_first.new.graph c.read_then_written.new.graph (bounded_later nothing_named c.args.graph.now c.read_only.new.graph c.written_first.new.graph c.read_only.ensures.bounded c.written_first.ensures.bounded) c.read_then_written.ensures.bounded
+pub returns-in_err-rw-clause-names : goal.returns-in_err-rw-clause-names
+returns-in_err-rw-clause-names c = names_later nothing_named c.args.graph.now c.written_first.new.graph c.read_then_written.new.graph (names_later nothing_named c.args.graph.now c.read_only.new.graph c.written_first.new.graph c.read_only.ensures.names c.written_first.ensures.names) c.read_then_written.ensures.names
 
-pub returns-clause-bounded : goal.returns-clause-bounded
-returns-clause-bounded c = bounded_later nothing_named c.args.graph.now c.written_first.new.graph c.read_then_written.new.graph (bounded_later nothing_named c.args.graph.now c.read_only.new.graph c.written_first.new.graph c.read_only.ensures.bounded c.written_first.ensures.bounded) c.read_then_written.ensures.bounded
+pub returns-clause-names : goal.returns-clause-names
+returns-clause-names c = names_later nothing_named c.args.graph.now c.written_first.new.graph c.read_then_written.new.graph (names_later nothing_named c.args.graph.now c.read_only.new.graph c.written_first.new.graph c.read_only.ensures.names c.written_first.ensures.names) c.read_then_written.ensures.names

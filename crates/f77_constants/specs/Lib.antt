@@ -1,0 +1,4 @@
+pub mod Constants
+pub mod Laws
+pub mod Rounds
+pub mod Values

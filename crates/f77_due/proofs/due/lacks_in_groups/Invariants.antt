@@ -1,0 +1,9 @@
+use Rattle.std.proofs.Common.{◌≡◌, drop}
+use Rattle.std.specs.List.{list_any}
+use Rattle.f77_due.specs.Due.{lacks_in_group}
+use Rattle.f77_due.specs.Starts.{facts_in}
+use Rattle.f77_due.proofs.due.lacks_in_groups.Given as goal
+
+-- what is looked for isn't in those before
+abbrev pub invariant-loop-group : goal.invariant-loop-group
+invariant-loop-group l = list_any (lacks_in_group (facts_in l.unit)) l.groups ≡ list_any (lacks_in_group (facts_in l.unit)) (drop l.group-index l.groups)

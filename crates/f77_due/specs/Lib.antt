@@ -1,0 +1,4 @@
+pub mod Breaks
+pub mod Due
+pub mod Starts
+pub mod Unit

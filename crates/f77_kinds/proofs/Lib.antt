@@ -1,0 +1,2 @@
+pub mod BreachLemmas
+pub mod LetterLemmas

@@ -1,0 +1,4 @@
+pub mod Entities
+pub mod Growing
+pub mod Laws
+pub mod Resolve
