@@ -114,7 +114,14 @@ fn show_fields(first: i64, second: i64, into: &mut Bytes) -> Result<(), NoMemory
 fn show_rest(instr: Instr, into: &mut Bytes) -> Result<(), NoMemory> {
     match instr {
         Instr::Lit(number) => show_field(number, into),
-        Instr::Truth(holds) => show_word(if holds { b"true".as_slice() } else { b"false".as_slice() }, into),
+        Instr::Truth(holds) => show_word(
+            if holds {
+                b"true".as_slice()
+            } else {
+                b"false".as_slice()
+            },
+            into,
+        ),
         Instr::Text(number) => show_field(i64::from(number), into),
         Instr::Entity(number) => show_field(i64::from(number), into),
         Instr::Index(count) => show_field(i64::from(count), into),
@@ -122,7 +129,11 @@ fn show_rest(instr: Instr, into: &mut Bytes) -> Result<(), NoMemory> {
         Instr::SliceFrom => Ok(()),
         Instr::Unary(op) => show_word(operator_name(op), into),
         Instr::Binary(op) => show_word(operator_name(op), into),
-        Instr::Intrinsic(function, count) => show_fields(i64::from(function), i64::from(count), into),
+        Instr::Intrinsic(function, count) => show_fields(
+            i64::from(function),
+            i64::from(count),
+            into,
+        ),
         Instr::Bind => Ok(()),
         Instr::Enter(first, count) => show_fields(i64::from(first), i64::from(count), into),
         Instr::Fix(number) => show_field(i64::from(number), into),

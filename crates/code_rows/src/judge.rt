@@ -37,7 +37,11 @@ fn is_as_wanted(rt: &(impl Print + AllocGlobal), name: &str, case: &Case) -> Res
     if given.as_slice() == case.wanted.as_slice() {
         return Ok(true);
     }
-    println!(rt; "{name}: line {}: differs, in: {}", case.line, Shown(&case.group))?;
+    println!(rt;
+        "{name}: line {}: differs, in: {}",
+        case.line,
+        Shown(&case.group)
+    )?;
     print_lines(rt, "wanted:", &case.wanted)?;
     print_lines(rt, "given:", given.as_slice())?;
     Ok(false)
