@@ -19,7 +19,7 @@ place_same address (Stored old) e = cc
 place_same address (Dummy number) e = refl
 place_same address (Constant value) e = refl
 
-with_place : Entity → Place → Entity
+abbrev with_place : Entity → Place → Entity
 with_place entity place = record entity { place = place }
 
 -- a stored entity is given the address, and another stays as it is

@@ -33,7 +33,7 @@ first_region at n rest a low high =
 
 -- one behind it lies in none of the regions before that of its own
 later_region : (s : Bool) (at n : ℕ) (rest : List Region) (a : ℕ) → at + n ≤ a → region_at (region_if s at n ++ rest) a ≡ (if s then 1 else 0) + region_at rest a
-later_region false at n rest a behind = refl
+later_region false at n rest a behind = omega arith
 later_region true at n rest a behind =
     let outside : lies_in a (record { start = at; len = n }) ≡ false = grind (arith, behind) in
     ap (λ t. cond (not t) (1 + region_at rest a) 0) outside
