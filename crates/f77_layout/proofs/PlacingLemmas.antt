@@ -1,12 +1,12 @@
 -- Entities, placed one after the other.
-use Rattle.std.proofs.Common.{◌≡◌, ℕ, zero, suc, ◌+◌, ◌<◌, ◌≤◌, Bool, true, false, List, [], ◌∷◌, ◌++◌, length, drop, nat_le, Option, None, Some, if◌then◌else◌, refl, sym, ap, ◌∙◌, arith}
+use Rattle.std.proofs.Common.{◌≡◌, ℕ, zero, suc, ◌+◌, ◌≤◌, Bool, true, false, List, [], ◌∷◌, ◌++◌, length, drop, nat_le, None, Some, if◌then◌else◌, refl, ap, arith}
 use Rattle.f77_ast.specs.Entity.{placed_at}
 use Rattle.f77_ast.specs.Limits.{most_storage_units}
 use Rattle.f77_ast.specs.declared.program.Entity.{Entity}
 use Rattle.f77_ast.specs.declared.program.Place.{Place}
 use Rattle.f77_ast.specs.declared.program.Place.TheVariants.{Stored, Dummy, Constant}
 use Rattle.f77_structure.specs.Storage.{is_stored}
-use Rattle.f77_layout.specs.Layout.{entities_from, entity_at, is_stored_at, limited, place_at, own_units, region_if, regions_from, total_units, units_at}
+use Rattle.f77_layout.specs.Layout.{is_stored_at, limited, place_at, region_if, regions_from, total_units, units_at}
 use Rattle.f77_layout.specs.Placing.{with_placed, placed_from}
 
 place_is : (address : ℕ) (place : Place) → is_stored place ≡ true → Stored address ≡ place_at address place

@@ -1,5 +1,5 @@
 -- Layouts are storage, and their entities are apart.
-use Rattle.std.proofs.Common.{◌≡◌, ℕ, zero, suc, ◌+◌, ◌<◌, ◌≤◌, pos, Bool, true, false, not, nat_le, nat_lt, List, [], ◌∷◌, ◌++◌, length, replicate, cond, All, Option, None, Some, slice_get, get_or, if◌then◌else◌, refl, sym, ap, ◌∙◌, subst, arith}
+use Rattle.std.proofs.Common.{◌≡◌, ℕ, zero, suc, ◌+◌, ◌<◌, ◌≤◌, pos, Bool, true, false, not, nat_le, nat_lt, List, [], ◌∷◌, ◌++◌, length, replicate, cond, All, None, Some, slice_get, get_or, if◌then◌else◌, refl, sym, ap, ◌∙◌, subst, arith}
 use Rattle.std.proofs.lemmas.List.{length-replicate}
 use Rattle.std.proofs.lemmas.List.Elements.{All-cons}
 use Rattle.f77_ast.specs.Limits.{most_storage_units}
@@ -9,7 +9,7 @@ use Rattle.f77_ast.specs.declared.program.Place.{Place}
 use Rattle.f77_ast.specs.declared.program.Place.TheVariants.{Stored, Dummy, Constant}
 use Rattle.f77_ast.specs.declared.program.Region.{Region}
 use Rattle.f77_structure.specs.Storage.{is_stored, lies_in, region_at, start_by, start_of, storage_units_of, LiesIn, IsStorage}
-use Rattle.f77_layout.specs.Layout.{entities_from, entity_at, layout_of, limited_layout, own_units, place_at, region_if, regions_from, total_units}
+use Rattle.f77_layout.specs.Layout.{entities_from, entity_at, layout_of, own_units, place_at, region_if, regions_from, total_units}
 use Rattle.f77_layout.specs.Laws.{EntitiesAreApart, LayoutsAreStorage}
 
 stored_still : (address : ℕ) (place : Place) → is_stored (place_at address place) ≡ is_stored place

@@ -11,11 +11,7 @@ use hyb_base::nums::Nums;
 use std::alloc::Global;
 
 /// The layout of entities within the limit on storage.
-fn layout_within(
-    alloc: Global,
-    mut entities: Entities,
-    total: u32,
-) -> Result<Layout, NoMemory>
+fn layout_within(alloc: Global, mut entities: Entities, total: u32) -> Result<Layout, NoMemory>
     requires { spec.limited (spec.total_units entities) ≡ Some total }
     ensures { IfOk result (λ layout. layout ≡ spec.layout_of entities) }
 {
