@@ -1,0 +1,3 @@
+pub mod Counting
+pub mod Statements
+pub mod Subscripts
