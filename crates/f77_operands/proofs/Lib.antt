@@ -1,2 +1,2 @@
+pub mod LeafCounts
 pub mod LimitLemmas
-pub mod NeedLemmas

@@ -1,10 +1,17 @@
--- What the limit comes to.
+-- What needs are, and what the limit comes to.
 use Rattle.f77_ast.specs.Limits.{most_operands}
-use Rattle.std.specs.Prelude.{◌≡◌, ◌↔◌, ◌≤◌, ◌<◌, ℕ, ◌+◌, List, [], ◌∷◌, ◌++◌, None, Some, sum_by}
+use Rattle.std.specs.Prelude.{◌≡◌, ◌↔◌, ◌≤◌, ◌<◌, ℕ, ◌+◌, List, [], ◌∷◌, ◌++◌, length, None, Some, sum_by}
 use Rattle.f77_ast.specs.declared.program.Listed.{Listed}
 use Rattle.f77_ast.specs.declared.program.Unit.{Unit as ProgramUnit}
 use Rattle.f77_ast.specs.declared.refusal.Refusal.{Refusal}
+use Rattle.f77_ast.specs.declared.stmt.Stmt.{Stmt}
+use Rattle.f77_leaves.specs.Leaves.{leaves_of}
+use Rattle.f77_structure.specs.Needs.{need_of}
 use Rattle.f77_operands.specs.Limit.{greatest_need, too_many, operand_refusal}
+
+-- the need of a statement is the number of the literals and names in it
+abbrev pub NeedsAreLeaves : Type 0
+NeedsAreLeaves = (statement : Stmt) → need_of statement ≡ length (leaves_of statement)
 
 -- the needs of some units together
 abbrev pub needs_of : List ProgramUnit → ℕ

@@ -1,7 +1,6 @@
 //! Numbers of operands that don't wrap: one past the limit is kept as one more than may be.
 ghost use Rattle.std.specs.Prelude.{◌≡◌, ◌+◌, length};
 ghost use Rattle.f77_operands.specs.Capped.{capped};
-ghost use Rattle.f77_structure.specs.Needs.{one_if};
 
 use f77_ast::limits::MOST_OPERANDS;
 
@@ -19,14 +18,4 @@ pub fn count<T>(list: &[T]) -> u32
     u32::try_from(list.len())
         .unwrap_or(MOST_OPERANDS + 1)
         .min(MOST_OPERANDS + 1)
-}
-
-/// 1 where the part is there, else 0.
-pub fn one_if<T>(part: &Option<T>) -> u32
-    ensures { result ≡ one_if part.now }
-{
-    match part {
-        None => 0,
-        Some(_) => 1,
-    }
 }
