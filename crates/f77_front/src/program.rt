@@ -31,7 +31,7 @@ fn kept_units(alloc: Global, units: Units) -> Result<Units, FrontError>
     ensures refused { (refusal : Refusal) → IsErrOf result (FrontError.Refused refusal) → kept_units units ≡ Err refusal }
 {
     let _entities = resolve(alloc, units.as_slice())?;
-    let operands = too_many_operands(units.as_slice());
+    let operands = too_many_operands(alloc, units.as_slice())?;
     unless_refused(operands, units)
 }
 

@@ -51,8 +51,3 @@ adds_more f xs i x a b c within stands before here =
 -- the names of all parts
 pub adds_all : {A : Type 0} (f : A → List (List ℕ)) (xs : List A) (i : ℕ) (a b : Names) → length xs ≤ i → Adds (flat_map f (take i xs)) a b → Adds (flat_map f xs) a b
 adds_all {A = A} f xs i a b past h = subst (λ (l : List A). Adds (flat_map f l) a b) (take_all i xs past) h
-
--- one name more of a list
-pub adds_one : (xs : List (List ℕ)) (i : ℕ) (x : List ℕ) (a b c : Names) → i < length xs → x ≡ get_or xs i x → Adds (take i xs) a b → Adds (x ∷ []) b c → Adds (take (i + 1) xs) a c
-adds_one xs i x a b c within stands before here =
-    subst (λ (l : List (List ℕ)). Adds l a c) (sym (take_more xs i x within ∙ ap (λ y. take i xs ++ y ∷ []) (sym stands))) (adds_then (take i xs) (x ∷ []) a b c before here)

@@ -4,7 +4,6 @@ pub mod AddLemmas
 pub mod CountLemmas
 pub mod CrossingLemmas
 pub mod Firsts
-pub mod NameLemmas
 pub mod OpenerLemmas
 pub mod RuleLemmas
 pub mod UnitLemmas

@@ -67,7 +67,7 @@ fn count_names(alloc: Global, others: usize, unit: &[Listed]) -> Result<Counted,
     let mut over = None;
     let mut count = others;
     for listed in unit {
-        names.statement(&listed.stmt)?;
+        names.add_statement(alloc, &listed.stmt)?;
         let after = capped(others, names.len());
         over = sooner(
             over,

@@ -75,7 +75,7 @@ pub fn units_of(alloc: Global, source: &[u8]) -> Result<Units, Unmade> {
 /// The units of a source, within the limit on operands.
 pub fn fitting_units_of(alloc: Global, source: &[u8]) -> Result<Units, Unmade> {
     let units = units_of(alloc, source)?;
-    match too_many_operands(units.as_slice()) {
+    match too_many_operands(alloc, units.as_slice())? {
         None => Ok(units),
         Some(refusal) => Err(Unmade::Refused(refusal)),
     }

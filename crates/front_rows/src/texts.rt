@@ -49,15 +49,15 @@ pub fn show_stmt_of(alloc: Global, text: &[u8], into: &mut Bytes) -> Result<(), 
 }
 
 /// Shows how many operands a statement needs. A function of its own, since `?` beside an owned statement outgrows the prover.
-fn show_need(stmt: &Stmt, into: &mut Bytes) -> Result<(), NoMemory> {
+fn show_need(alloc: Global, stmt: &Stmt, into: &mut Bytes) -> Result<(), NoMemory> {
     into.push_slice(b"need".as_slice())?;
-    show_field(operand_need(stmt), into)
+    show_field(operand_need(alloc, stmt)?, into)
 }
 
 /// Shows how many operands the statement that a text spells needs.
 pub fn show_need_of(alloc: Global, text: &[u8], into: &mut Bytes) -> Result<(), NoMemory> {
     match stmt_of(alloc, text) {
-        Ok(spelled) => show_need(&spelled, into),
+        Ok(spelled) => show_need(alloc, &spelled, into),
         Err(error) => show_error(error, into),
     }
 }

@@ -12,7 +12,7 @@ loop-listed-preserved c =
     let unit = c.args.unit.now in
     let i = c.loop-listed.listed-index in
     let x = c.listed-item.result in
-    let held : Holds (names_of (take (i + 1) unit)) c.statement.new.self = subst (λ (l : List (List ℕ)). Holds l c.statement.new.self) (sym (names_more unit i x c.loop-listed-test.true c.listed-item.is)) (holds_more (names_of (take i unit)) (names_in x.stmt) c.loop-listed.names c.statement.new.self c.loop-listed.invariant.names c.in_ok-statement.ensures) in
+    let held : Holds (names_of (take (i + 1) unit)) c.add_statement.new.self = subst (λ (l : List (List ℕ)). Holds l c.add_statement.new.self) (sym (names_more unit i x c.loop-listed-test.true c.listed-item.is)) (holds_more (names_of (take i unit)) (names_in x.stmt) c.loop-listed.names c.add_statement.new.self c.loop-listed.invariant.names c.in_ok-add_statement.ensures) in
     let count : c.capped-after.result ≡ min (c.args.others + name_count (names_of (take (i + 1) unit))) (most_names + 1) = c.capped-after.ensures ∙ ap (λ n. min (c.args.others + n) (most_names + 1)) (c.len.ensures (names_of (take (i + 1) unit)) held) in
     record {
       names = held;
