@@ -1,9 +1,8 @@
 -- What is in a statement is as much as its need.
 use Rattle.std.proofs.Common.{◌≡◌, ℕ, ◌+◌, List, [], ◌∷◌, ◌++◌, length, map, Option, None, Some, refl, sym, ap, ◌∙◌, subst, arith}
 use Rattle.std.proofs.lemmas.List.{length-append, length-map}
-use Rattle.std.proofs.lemmas.List.Sums.{sum-map, sum_by-cons}
+use Rattle.std.proofs.lemmas.List.Sums.{sum_by-cons}
 use Rattle.std.specs.List.{flat_map, sum, sum_by}
-use Rattle.std.specs.Option.{option_map}
 use Rattle.f77_ast.specs.declared.data.DataConstant.TheVariants as constant
 use Rattle.f77_ast.specs.declared.data.DataConstant.{DataConstant}
 use Rattle.f77_ast.specs.declared.data.DataGroup.{DataGroup}
