@@ -2,16 +2,18 @@
 use Rattle.std.proofs.Common.{◌≡◌, ℕ, suc, ◌<◌, ◌^◌, ◌&&◌, ℤ, pos, List, [], ◌∷◌, All, length, Option, None, Some, refl, sym, ap, subst, ◌∙◌, arith, Bool, true, false, cond, find}
 use Rattle.f77_ast.specs.Entity.{entity_in, is_named}
 use Rattle.f77_ast.specs.declared.program.Entity.{Entity}
-use Rattle.f77_ast.specs.declared.fault.Fault.TheVariants.{DoRange, OutsideRegion, ZeroIncrement}
+use Rattle.f77_ast.specs.declared.fault.Fault.TheVariants.{DoRange, OutsideRegion, ValueDummyAssigned, ZeroIncrement}
 use Rattle.f77_ast.specs.declared.program.Place.{Place}
 use Rattle.f77_ast.specs.declared.program.Place.TheVariants.{Stored, Dummy, Constant}
 use Rattle.f77_ast.specs.declared.program.Region.{Region}
 use Rattle.f77_ast.specs.declared.specification.Bound.{Bound}
 use Rattle.f77_ast.specs.declared.stmt.LoopControl.{LoopControl}
+use Rattle.f77_structure.specs.Literals.{literal_value}
 use Rattle.f77_structure.specs.Storage.{IsStorage, LiesIn, is_scalar, is_stored, region_at, start_by, start_of, storage_units_of, storage_units_by, stored_at}
-use Rattle.f77_meaning.specs.Demand.{Demand, gives, wants, calls, fails, and_then, is_outside, located, located_by, place_by, Setting}
+use Rattle.f77_structure.specs.Values.{Value}
+use Rattle.f77_meaning.specs.Demand.{Demand, gives, wants, calls, fails, and_then, constant, is_outside, located, located_by, place_by, Setting}
 use Rattle.f77_meaning.specs.Do.{Begun, Parameters, begun_at, begun_of, begun_with, parameters_of, is_in_range, is_zero, count_of, has_64_bits, value_after}
-use Rattle.f77_meaning.specs.Process.{placed}
+use Rattle.f77_meaning.specs.Process.{placed, valued}
 use Rattle.f77_meaning.proofs.Frames.{Begins}
 
 -- what is found is one of the list
@@ -75,10 +77,20 @@ begins_of s control answers rest begun storage e = by (parameters_of s control a
         begun_numbers s total address (region_at s.program.layout.regions address) entity.len m left rest begun (omega (arith, lies.within there, one_unit entity scalar, here)) found
     stored_by m left entity lies address place false scalar e = absurd (cc)
 
+    -- a loop has no constant as its variable
+    constant_begins : (m : Parameters) (left : List ℤ) (entity : Entity) (value : Option Value) → and_then (constant s entity value None left) (λ variable more. begun_with s variable.bound m more) ≡ gives begun rest → Begins total begun
+    constant_begins m left entity None e = absurd (cc)
+    constant_begins m left entity (Some value) e = by (is_zero m.increment) (is_in_range m) e
+      where
+        by : (z r : Bool) → cond z (fails ZeroIncrement) (cond r (fails ValueDummyAssigned) (fails DoRange)) ≡ gives begun rest → Begins total begun
+        by true r e = absurd (cc)
+        by false true e = absurd (cc)
+        by false false e = absurd (cc)
+
     place_of_it : (m : Parameters) (left : List ℤ) (entity : Entity) → LiesIn total s.program.layout.regions entity → (place : Place) → entity.place ≡ place → and_then (located_by s entity place None left) (λ variable more. begun_with s variable.bound m more) ≡ gives begun rest → Begins total begun
     place_of_it m left entity lies (Stored address) h e = stored_by m left entity lies address h (is_scalar entity.bounds) refl e
     place_of_it m left entity lies (Dummy k) h e = absurd (cc)
-    place_of_it m left entity lies (Constant value) h e = absurd (cc)
+    place_of_it m left entity lies (Constant value) h e = constant_begins m left entity (literal_value value) e
 
     entity_by : (m : Parameters) (left : List ℤ) (o : Option Entity) → entity_in s.program.layout.entities s.unit control.variable ≡ o → and_then (located s o None left) (λ variable more. begun_with s variable.bound m more) ≡ gives begun rest → Begins total begun
     entity_by m left None h e = absurd (cc)

@@ -12,10 +12,11 @@ use Rattle.f77_ast.specs.declared.fault.Fault.TheVariants.{OutsideRegion, Subscr
 use Rattle.f77_ast.specs.declared.program.Entity.{Entity}
 use Rattle.f77_ast.specs.declared.program.Place.{Place}
 use Rattle.f77_ast.specs.declared.program.Place.TheVariants.{Stored, Dummy, Constant}
+use Rattle.f77_structure.specs.Literals.{literal_value}
 use Rattle.f77_structure.specs.Storage.{address_of_variable, address_of_element}
 use Rattle.f77_structure.specs.Values.{Value, integer, truth, chars, Operated, yields, breaks, means_nothing, unary_of, binary_of, value_of_units}
 use Rattle.f77_ast.specs.declared.expr.Kind.{Kind}
-use Rattle.f77_meaning.specs.Demand.{fails, gives, and_then, Bounds, Located, Location, Setting, Term, operated, address_written, bounds_of, cell_in, cell_value, cells_from, demand_of, expr_step, is_in_region, is_outside, located, located_by, location_of, number_demand, number_of, part_step, place_by, place_of, ref_step, stored, term_of, value_at, value_of_bound, width, written_at}
+use Rattle.f77_meaning.specs.Demand.{fails, gives, and_then, Bounds, Located, Location, Setting, Term, operated, address_written, bounds_of, cell_in, cell_value, cells_from, constant, demand_of, expr_step, is_in_region, is_outside, located, located_by, location_of, number_demand, number_of, part_step, place_by, place_of, ref_step, stored, term_of, value_at, value_of_bound, width, written_at}
 use Rattle.f77_meaning.specs.Process.{Binding, placed, valued, unvalued}
 use Rattle.f77_meaning.proofs.Evaluations.{AsksInTurn, settles, looks, then_asks}
 use Rattle.f77_meaning.proofs.Evaluations as turn
@@ -85,6 +86,11 @@ stored_asks s entity (Some (subscript ∷ [])) all =
     then_asks subscript.value (λ value rest. place_by s entity (address_of_element entity (number_of value)) rest) all (λ value. place_asks s entity (address_of_element entity (number_of value)))
 stored_asks s entity (Some (subscript ∷ second ∷ others)) all = turn.breaks (stored s entity (Some (subscript ∷ second ∷ others))) Subscript (λ answers. refl)
 
+constant_asks : (s : Setting) (entity : Entity) (value : Option Value) (args : Option (List Term)) → AsksInTurn Located (constant s entity value args)
+constant_asks s entity None args = turn.breaks (constant s entity None args) Subscript (λ answers. refl)
+constant_asks s entity (Some value) None = given (record { kind = entity.kind; bound = valued value })
+constant_asks s entity (Some value) (Some subscripts) = turn.breaks (constant s entity (Some value) (Some subscripts)) Subscript (λ answers. refl)
+
 pub located_asks : (s : Setting) (found : Option Entity) (args : Option (List Term)) → SubscriptAsks args → AsksInTurn Located (located s found args)
 located_asks s None args all = turn.breaks (located s None args) Subscript (λ answers. refl)
 located_asks s (Some entity) args all = by entity.place
@@ -92,7 +98,7 @@ located_asks s (Some entity) args all = by entity.place
     by : (place : Place) → AsksInTurn Located (located_by s entity place args)
     by (Stored address) = stored_asks s entity args all
     by (Dummy k) = turn.breaks (located_by s entity (Dummy k) args) Subscript (λ answers. refl)
-    by (Constant value) = turn.breaks (located_by s entity (Constant value) args) Subscript (λ answers. refl)
+    by (Constant value) = constant_asks s entity (literal_value value) args
 
 module _ (s : Setting) where
   -- an expression, and a reference, with the proof that it asks in turn

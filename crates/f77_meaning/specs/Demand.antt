@@ -19,6 +19,7 @@ use Rattle.f77_ast.specs.declared.program.Program.{Program}
 use Rattle.f77_ast.specs.declared.fault.Fault.{Fault}
 use Rattle.f77_ast.specs.declared.fault.Fault.TheVariants.{OutsideRegion, Subscript, Substring, ValueDummyAssigned}
 use Rattle.f77_ast.specs.Entity.{entity_in}
+use Rattle.f77_structure.specs.Literals.{literal_value}
 use Rattle.f77_structure.specs.Storage.{address_of_variable, address_of_element, region_at}
 use Rattle.f77_structure.specs.Values.{Value, integer, truth, chars, value_of_units, units_of_value, only_number, Operated, yields, breaks, means_nothing, unary_of, binary_of}
 use Rattle.f77_meaning.specs.Process.{Binding, placed, valued, unvalued, Dimension, Frame}
@@ -163,11 +164,17 @@ module _ (s : Setting) where
   stored entity (Some (subscript ∷ [])) answers = and_then (subscript.value answers) (λ value rest. place_by entity (address_of_element entity (number_of value)) rest)
   stored entity (Some (subscript ∷ second ∷ others)) answers = fails Subscript
 
-  -- an entity, by its place. Dummies and constants have no meaning yet; no accepted program has one
+  -- a constant: its value, which stands there as a literal; subscripts behind it have no meaning, and no accepted program has them
+  abbrev pub constant : Entity → (value : Option Value) → Option (List Term) → Location
+  constant entity None args answers = fails Subscript
+  constant entity (Some value) None answers = gives (record { kind = entity.kind; bound = valued value }) answers
+  constant entity (Some value) (Some subscripts) answers = fails Subscript
+
+  -- an entity, by its place. Dummies have no meaning yet; no accepted program has one
   abbrev pub located_by : Entity → Place → Option (List Term) → Location
   located_by entity (Stored address) args answers = stored entity args answers
   located_by entity (Dummy place) args answers = fails Subscript
-  located_by entity (Constant value) args answers = fails Subscript
+  located_by entity (Constant value) args answers = constant entity (literal_value value) args answers
 
   -- an entity that may be there; a name of none has no meaning, and no accepted program has one
   abbrev pub located : Option Entity → Option (List Term) → Location

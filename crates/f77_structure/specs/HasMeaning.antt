@@ -4,12 +4,13 @@
 -- the meaning of a program, and is then let in here.
 use Rattle.std.specs.Prelude.{ℕ, Bool, true, false, ◌&&◌, ◌||◌, List, [], ◌∷◌, Option, None, Some}
 use Rattle.std.specs.List.{list_all}
+use Rattle.std.specs.Option.{is_some}
 use Rattle.f77_ast.specs.Entity.{entity_in}
 use Rattle.f77_ast.specs.declared.expr.Expr.{Expr}
 use Rattle.f77_ast.specs.declared.expr.Expr.TheFolds.{fold-Expr, fold-Ref}
 use Rattle.f77_ast.specs.declared.expr.Expr.TheOpen.{Expr-F, Part-F, Ref-F}
 use Rattle.f77_ast.specs.declared.expr.Expr.TheOpen as layer
-use Rattle.f77_ast.specs.declared.expr.Ref.{Ref}
+use Rattle.f77_ast.specs.declared.expr.Ref.{Ref, out-Ref}
 use Rattle.f77_ast.specs.declared.program.Entity.{Entity}
 use Rattle.f77_ast.specs.declared.program.Layout.{Layout}
 use Rattle.f77_ast.specs.declared.program.Unit.{Unit as ProgramUnit}
@@ -19,25 +20,36 @@ use Rattle.f77_ast.specs.declared.stmt.LoopControl.{LoopControl}
 use Rattle.f77_ast.specs.declared.stmt.Stmt.{Stmt}
 use Rattle.f77_ast.specs.declared.stmt.Stmt as stmt
 use Rattle.f77_structure.specs.Arrays.{array_named}
+use Rattle.f77_structure.specs.Literals.{constant_number}
 use Rattle.f77_structure.specs.Storage.{is_scalar, is_stored, is_vector}
 use Rattle.f77_structure.specs.Values.{is_integer_kind, is_sign, is_arithmetic}
 
--- whether an entity is an INTEGER variable in storage; dummies and constants have no meaning yet
+-- whether an entity is an INTEGER variable in storage; dummies have no meaning yet
 abbrev pub is_integer_variable : Option Entity → Bool
 is_integer_variable None = false
 is_integer_variable (Some entity) = is_integer_kind entity.kind && (is_stored entity.place && is_scalar entity.bounds)
+
+-- whether an entity is an INTEGER constant; constants of other types have no meaning yet
+abbrev pub is_integer_constant : Option Entity → Bool
+is_integer_constant None = false
+is_integer_constant (Some entity) = is_integer_kind entity.kind && (is_some (constant_number entity.place) && is_scalar entity.bounds)
 
 -- whether an entity is an INTEGER array of one dimension in storage
 abbrev pub is_integer_vector : Option Entity → Bool
 is_integer_vector None = false
 is_integer_vector (Some entity) = is_integer_kind entity.kind && (is_stored entity.place && is_vector entity.bounds)
 
--- whether a name with such subscripts has a meaning: a variable without, an array of one dimension with one that has a meaning
+-- whether a name with such subscripts has a meaning: a variable or a constant without, an array of one dimension with one that has a meaning
 abbrev pub names_integer : Option Entity → Option (List Bool) → Bool
-names_integer found None = is_integer_variable found
+names_integer found None = is_integer_variable found || is_integer_constant found
 names_integer found (Some []) = false
 names_integer found (Some (subscript ∷ [])) = is_integer_vector found && subscript
 names_integer found (Some (first ∷ second ∷ subscripts)) = false
+
+-- whether an entity is there and in storage, where what an assignment gives it is kept
+abbrev pub is_kept : Option Entity → Bool
+is_kept None = false
+is_kept (Some entity) = is_stored entity.place
 
 -- there is no substring
 abbrev pub is_whole : Option (Unit {0}) → Bool
@@ -70,6 +82,10 @@ module _ (units : List ProgramUnit) (layout : Layout) (unit : ℕ) where
   abbrev pub ref_has_meaning : Ref → Bool
   ref_has_meaning = fold-Ref Bool (Unit {0}) Bool meaning_step meaning_part (meaning_ref units layout unit)
 
+  -- whether the left side of an assignment has one: a variable or an element, no constant
+  abbrev pub target_has_meaning : Ref → Bool
+  target_has_meaning target = ref_has_meaning target && is_kept (entity_in layout.entities unit (out-Ref target).name)
+
   -- whether an item has one, which may also be an array's name alone; an implied DO has none yet
   abbrev pub item_has_meaning : Item → Bool
   item_has_meaning (item.Plain expr) = expr_has_meaning expr || is_integer_vector (array_named layout unit expr)
@@ -88,7 +104,7 @@ module _ (units : List ProgramUnit) (layout : Layout) (unit : ℕ) where
   -- whether a statement has one. PROGRAM and the specification statements take no step; DATA, unit headings of subprograms
   -- and all other statements have none yet
   abbrev pub statement_has_meaning : Stmt → Bool
-  statement_has_meaning (stmt.Assign target value) = ref_has_meaning target && expr_has_meaning value
+  statement_has_meaning (stmt.Assign target value) = target_has_meaning target && expr_has_meaning value
   statement_has_meaning (stmt.Do terminal control) = control_has_meaning control
   statement_has_meaning stmt.Continue = true
   statement_has_meaning stmt.Return = false

@@ -2,6 +2,7 @@ pub mod Arrays
 pub mod Blocks
 pub mod Labels
 pub mod Laws
+pub mod Literals
 pub mod Loops
 pub mod Needs
 pub mod Ranges

@@ -127,11 +127,6 @@ is_stored (Stored address) = true
 is_stored (Dummy place) = false
 is_stored (Constant value) = false
 
--- how many storage units some entities take
-abbrev pub storage_units_of_all : List Entity → ℕ
-storage_units_of_all [] = 0
-storage_units_of_all (entity ∷ entities) = storage_units_of entity + storage_units_of_all entities
-
 -- whether an address lies in a region
 abbrev pub lies_in : (address : ℕ) → Region → Bool
 lies_in address region = nat_le region.start address && nat_lt address (region.start + region.len)
@@ -152,16 +147,3 @@ pub record IsStorage (layout : Layout) : Type 0 where
   pub lie : All (LiesIn (length layout.first) layout.regions) layout.entities
   pub covered : (address : ℕ) → address < length layout.first → region_at layout.regions address < length layout.regions
   pub small : length layout.first ≤ 2 ^ 32
-
--- the region of an entity that overlaps no other
-abbrev pub region_of : Entity → Region
-region_of entity = record { start = start_of entity; len = storage_units_of entity }
-
--- the layout of a file of one program unit without COMMON and EQUIVALENCE, for all of its entities at once: each stands
--- where those before it end and is a region of its own, and each storage unit is 0 before the first step. Which entities
--- there are, and in which order, is said where the program is made.
-pub record IsLaidOut (layout : Layout) : Type 0 where
-  pub placed : (k : ℕ) (entity : Entity) → slice_get layout.entities k ≡ Some entity → entity.place ≡ Stored (storage_units_of_all (take k layout.entities))
-  pub regions : layout.regions ≡ map region_of layout.entities
-  pub total : layout.total ≡ storage_units_of_all layout.entities
-  pub first : layout.first ≡ repeat layout.total (pos 0 ∷ [])

@@ -1,6 +1,7 @@
 //! Where entities and their elements are in storage (ANSI X3.9-1978, sections 2.13, 5.1.1, 5.2.5 and 5.4).
 ghost use Rattle.std.specs.Prelude.{◌≡◌, ◌+◌, ◌<◌, ◌≤◌, ◌^◌, IfSome};
 ghost use Rattle.std.specs.Int.{int_gap};
+ghost use Rattle.f77_structure.specs.Literals.{constant_number};
 ghost use Rattle.f77_structure.specs.Storage.{literal_number, bound_number, span_of, extent_of, vector_span, is_within, offset_of, offset_by, stored_at, start_by, start_of, storage_units_of, address_of_variable, address_of_element};
 
 use f77_ast::expr::Expr;
@@ -106,6 +107,17 @@ pub fn stored_at(place: &Place) -> Option<u32>
         Place::Stored(address) => Some(*address),
         Place::Dummy(_) => None,
         Place::Constant(_) => None,
+    }
+}
+
+/// The number that a constant is; none of what is stored, of a dummy, and of a constant of another type (section 8.6).
+pub fn constant_number(place: &Place) -> Option<i64>
+    ensures { result ≡ constant_number place.now }
+{
+    match place {
+        Place::Stored(_) => None,
+        Place::Dummy(_) => None,
+        Place::Constant(value) => literal_number(value),
     }
 }
 
