@@ -13,7 +13,7 @@ use Rattle.f77_structure.specs.Storage.{IsStorage, LiesIn, is_scalar, is_stored,
 use Rattle.f77_structure.specs.Values.{Value}
 use Rattle.f77_meaning.specs.Demand.{Demand, gives, wants, calls, fails, and_then, constant, is_outside, located, located_by, place_by, Setting}
 use Rattle.f77_meaning.specs.Do.{Begun, Parameters, begun_at, begun_of, begun_with, parameters_of, is_in_range, is_zero, count_of, has_64_bits, value_after}
-use Rattle.f77_meaning.specs.Process.{placed, valued}
+use Rattle.f77_meaning.specs.Process.{placed}
 use Rattle.f77_meaning.proofs.Frames.{Begins}
 
 -- what is found is one of the list

@@ -1,6 +1,6 @@
 -- The storage units of the entities of a program (ANSI X3.9-1978, sections 2.13, 5.1.2, 5.2.5, 5.4 and 17.1.1).
-use Rattle.std.specs.Prelude.{ℤ, ◌+ℤ◌, ◌&&◌, int_le, nat_le, nat_lt, if◌then◌else◌, ◌≡◌, ℕ, ◌+◌, ◌<◌, ◌≤◌, ◌^◌, pos, Bool, true, false, List, [], ◌∷◌, length, map, All, take, Option, None, Some, slice_get}
-use Rattle.std.specs.List.{position_or_len, repeat}
+use Rattle.std.specs.Prelude.{ℤ, ◌+ℤ◌, ◌&&◌, int_le, nat_le, nat_lt, if◌then◌else◌, ◌≡◌, ℕ, ◌+◌, ◌<◌, ◌≤◌, ◌^◌, pos, Bool, true, false, List, [], ◌∷◌, length, All, Option, None, Some}
+use Rattle.std.specs.List.{position_or_len}
 use Rattle.std.specs.Int.{int_gap}
 use Rattle.std.specs.Option.{is_some, option_map}
 use Rattle.f77_ast.specs.declared.expr.Expr.{Expr, out-Expr}

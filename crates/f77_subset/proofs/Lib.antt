@@ -1,9 +1,0 @@
-pub mod Admits
-pub mod Firsts
-pub mod Lists
-pub mod LoopsSoFar
-pub mod Meaning
-pub mod Passes
-pub mod Satisfies
-pub mod Standing
-pub mod Statements
