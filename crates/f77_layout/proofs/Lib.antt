@@ -1,2 +1,2 @@
-mod PlacingLemmas
-mod StorageLemmas
+pub mod PlacingLemmas
+pub mod StorageLemmas

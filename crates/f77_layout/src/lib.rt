@@ -7,4 +7,4 @@
 pub mod laws;
 pub mod layout;
 mod placing;
-mod units;
+pub mod units;
