@@ -1,5 +1,6 @@
 -- The array that an expression names lies in storage.
-use Rattle.std.proofs.Common.{◌≡◌, ◌&&◌, List, [], ◌∷◌, Bool, true, false, cond, length, Option, None, Some, refl, sym, subst, ◌∙◌}
+use Rattle.std.proofs.Common.{◌≡◌, ◌&&◌, ◌||◌, List, [], ◌∷◌, Bool, true, false, cond, length, Option, None, Some, refl, sym, subst, ◌∙◌}
+use Rattle.std.specs.Option.{is_some}
 use Rattle.f77_ast.specs.Entity.{entity_in}
 use Rattle.f77_ast.specs.declared.expr.Expr.{Expr}
 use Rattle.f77_ast.specs.declared.expr.Expr.TheFolds.{fold-roll-Expr, fold-roll-Ref, ind-Expr, map-Expr, map-Ref}
@@ -11,7 +12,8 @@ use Rattle.f77_ast.specs.declared.expr.Ref.{Ref}
 use Rattle.f77_ast.specs.declared.program.Entity.{Entity}
 use Rattle.f77_structure.specs.Arrays.{array_named, array_of_ref, array_part, array_ref, array_step, if_array, named_alone}
 use Rattle.f77_ast.specs.declared.specification.Bound.{Bound}
-use Rattle.f77_structure.specs.HasMeaning.{expr_has_meaning, is_integer_variable, meaning_part, meaning_ref, meaning_step, ref_has_meaning}
+use Rattle.f77_structure.specs.HasMeaning.{expr_has_meaning, is_integer_constant, is_integer_variable, meaning_part, meaning_ref, meaning_step, ref_has_meaning}
+use Rattle.f77_structure.specs.Literals.{constant_number}
 use Rattle.f77_structure.specs.Storage.{IsStorage, LiesIn, is_scalar, is_stored, is_vector}
 use Rattle.f77_structure.specs.Values.{is_integer_kind}
 use Rattle.f77_meaning.specs.Demand.{Setting}
@@ -83,14 +85,32 @@ module _ (s : Setting) (storage : IsStorage s.program.layout) where
       (λ x y is. tt)
       (λ x y is. ref_layer x)
 
--- an INTEGER variable is no array
-scalar_is_none : (found : Option Entity) → is_integer_variable found ≡ true → if_array found ≡ None
-scalar_is_none None m = absurd (cc)
-scalar_is_none (Some entity) m = by entity.bounds (both (is_stored entity.place) (is_scalar entity.bounds) (both (is_integer_kind entity.kind) (is_stored entity.place && is_scalar entity.bounds) m).1).1
+-- an entity without dimensions is no array
+scalar_is_none : (entity : Entity) → is_scalar entity.bounds ≡ true → if_array (Some entity) ≡ None
+scalar_is_none entity scalar = by entity.bounds scalar
   where
     by : (bounds : List Bound) → is_scalar bounds ≡ true → cond (is_vector bounds) (Some entity) None ≡ None
     by [] h = refl
     by (bound ∷ bounds) h = absurd (cc)
+
+-- an INTEGER variable is no array
+variable_is_none : (found : Option Entity) → is_integer_variable found ≡ true → if_array found ≡ None
+variable_is_none None m = absurd (cc)
+variable_is_none (Some entity) m = scalar_is_none entity (both (is_stored entity.place) (is_scalar entity.bounds) (both (is_integer_kind entity.kind) (is_stored entity.place && is_scalar entity.bounds) m).1).1
+
+-- an INTEGER constant is no array
+constant_is_none : (found : Option Entity) → is_integer_constant found ≡ true → if_array found ≡ None
+constant_is_none None m = absurd (cc)
+constant_is_none (Some entity) m =
+    scalar_is_none entity (both (is_some (constant_number entity.place)) (is_scalar entity.bounds) (both (is_integer_kind entity.kind) (is_some (constant_number entity.place) && is_scalar entity.bounds) m).1).1
+
+-- an INTEGER variable or constant is no array
+alone_is_none : (found : Option Entity) → (is_integer_variable found || is_integer_constant found) ≡ true → if_array found ≡ None
+alone_is_none found m = by (is_integer_variable found) refl m
+  where
+    by : (b : Bool) → is_integer_variable found ≡ b → (b || is_integer_constant found) ≡ true → if_array found ≡ None
+    by true variable either = variable_is_none found variable
+    by false variable either = constant_is_none found either
 
 module _ (s : Setting) where
   -- an expression and a reference name no array as a whole, where they have a meaning
@@ -143,7 +163,7 @@ module _ (s : Setting) where
   none_layer (layer.Paren x) = none_of_layer (layer.Paren x.0) (λ m. refl)
 
   none_by : (z : Ref-F Expr Part Ref) (args : Option (List Expr)) (part : Option Part) → meaning_ref s.program.units s.program.layout s.unit (tested_ref (record z { args = args; part = part })) ≡ true → array_ref s.program.layout s.unit (named_ref (record z { args = args; part = part })) ≡ None
-  none_by z None None m = scalar_is_none (entity_in s.program.layout.entities s.unit z.name) m
+  none_by z None None m = alone_is_none (entity_in s.program.layout.entities s.unit z.name) m
   none_by z None (Some part) m = refl
   none_by z (Some args) part m = refl
 

@@ -3,6 +3,7 @@ use Rattle.std.proofs.Common.{◌≡◌, ℕ, zero, suc, ◌<◌, ◌&&◌, ℤ,
 use Rattle.std.specs.Option.{option_map, option_or}
 use Rattle.hyb_base.specs.declared.ops.RedOp.{RedOp}
 use Rattle.hyb_base.specs.declared.ops.RedOp.TheVariants as red
+use Rattle.f77_ast.specs.Entity.{entity_in}
 use Rattle.f77_ast.specs.declared.expr.Expr.{Expr, out-Expr, roll-out-Expr}
 use Rattle.f77_ast.specs.declared.expr.Expr.TheFolds.{fold-roll-Expr, map-Expr}
 use Rattle.f77_ast.specs.declared.expr.Expr.TheOpen.{Expr-F, Part-F, Ref-F}
@@ -10,9 +11,9 @@ use Rattle.f77_ast.specs.declared.expr.Expr.TheOpen as layer
 use Rattle.f77_ast.specs.declared.expr.Kind.{Kind}
 use Rattle.f77_ast.specs.declared.expr.Op.{Op}
 use Rattle.f77_ast.specs.declared.expr.Part.{Part}
-use Rattle.f77_ast.specs.declared.expr.Ref.{Ref}
+use Rattle.f77_ast.specs.declared.expr.Ref.{Ref, out-Ref}
 use Rattle.f77_ast.specs.declared.fault.Fault.TheVariants.{OutsideRegion}
-use Rattle.f77_structure.specs.HasMeaning.{expr_has_meaning, meaning_part, meaning_ref, meaning_step, ref_has_meaning}
+use Rattle.f77_structure.specs.HasMeaning.{expr_has_meaning, is_kept, meaning_part, meaning_ref, meaning_step, ref_has_meaning, target_has_meaning}
 use Rattle.f77_structure.specs.Storage.{IsStorage}
 use Rattle.f77_structure.specs.Values.{is_arithmetic}
 use Rattle.f77_meaning.specs.Assign.{Accumulation, Held, Operation, Written, accumulate, accumulate_at, accumulates_by, accumulation_of, chain_by, chain_of, chain_within, exchanged, held_first, held_last, held_next, is_v, joined_by, last_by, last_with, layer_operation, operation_of, operators_at_left, stands_in_product, stands_in_sum, written_by, written_of}
@@ -150,8 +151,9 @@ module _ (s : Setting) (storage : IsStorage s.program.layout) where
       then_asks total Any WritesIn (a.held answers) (λ f rest. accumulate_at s a.op place.bound f rest) (h answers) (λ f rest good. last_at a.op place.kind place.bound f in_storage rest)
 
   -- what an assignment reads and writes lies in storage
-  pub written_asks : (target : Ref) (value : Expr) → IsTrue (ref_has_meaning s.program.units s.program.layout s.unit target && expr_has_meaning s.program.units s.program.layout s.unit value) → (answers : List ℤ) → Asks total WritesIn (written_of s target value answers)
+  pub written_asks : (target : Ref) (value : Expr) → IsTrue (target_has_meaning s.program.units s.program.layout s.unit target && expr_has_meaning s.program.units s.program.layout s.unit value) → (answers : List ℤ) → Asks total WritesIn (written_of s target value answers)
   written_asks target value m answers =
-      let tests : (ref_has_meaning s.program.units s.program.layout s.unit target ≡ true) × (expr_has_meaning s.program.units s.program.layout s.unit value ≡ true) = both (ref_has_meaning s.program.units s.program.layout s.unit target) (expr_has_meaning s.program.units s.program.layout s.unit value) m in
-      then_asks total (InStorage total) WritesIn (location_of s target answers) (λ place rest. written_by s (accumulation_of s target value) place (demand_of s value) rest) (location_asks s storage target tests.0 answers)
+      let tests : (target_has_meaning s.program.units s.program.layout s.unit target ≡ true) × (expr_has_meaning s.program.units s.program.layout s.unit value ≡ true) = both (target_has_meaning s.program.units s.program.layout s.unit target) (expr_has_meaning s.program.units s.program.layout s.unit value) m in
+      let means : ref_has_meaning s.program.units s.program.layout s.unit target ≡ true = (both (ref_has_meaning s.program.units s.program.layout s.unit target) (is_kept (entity_in s.program.layout.entities s.unit (out-Ref target).name)) tests.0).0 in
+      then_asks total (InStorage total) WritesIn (location_of s target answers) (λ place rest. written_by s (accumulation_of s target value) place (demand_of s value) rest) (location_asks s storage target means answers)
       (λ place rest good. either_asks value tests.1 (accumulation_of s target value) (accumulates target value tests.1) place good rest)

@@ -12,8 +12,8 @@ use Rattle.f77_ast.specs.declared.program.Place.TheVariants.{Stored, Dummy, Cons
 use Rattle.f77_ast.specs.declared.specification.Bound.{Bound}
 use Rattle.f77_structure.specs.HasMeaning.{is_integer_variable, is_integer_vector}
 use Rattle.f77_structure.specs.Storage.{LiesIn, address_after, address_of_element, address_of_variable, extent_by, is_scalar, is_stored, is_vector, is_within, offset_by, offset_of, span_of, start_by, storage_units_by, stored_at, vector_span}
-use Rattle.f77_structure.specs.Values.{Operated, yields, breaks, means_nothing, is_integer_kind, value_of_units}
-use Rattle.f77_meaning.specs.Demand.{Demand, gives, wants, calls, fails, and_then, address_written, cell_in, cell_value, cells_from, is_in_region, is_outside, Located, Setting, operated, place_by, place_of, value_at, value_of_bound, width, written_at}
+use Rattle.f77_structure.specs.Values.{Value, Operated, yields, breaks, means_nothing, is_integer_kind, value_of_units}
+use Rattle.f77_meaning.specs.Demand.{Demand, gives, wants, calls, fails, and_then, address_written, cell_in, cell_value, cells_from, constant, is_in_region, is_outside, Located, Setting, Term, operated, place_by, place_of, value_at, value_of_bound, width, written_at}
 use Rattle.f77_meaning.specs.Process.{Binding, placed, valued, unvalued}
 
 -- a value of which nothing is said
@@ -46,7 +46,7 @@ module _ (total : ℕ) where
   BoundIn k (valued value) = Unit {0}
   BoundIn k (unvalued length) = Unit {0}
 
-  -- a variable or an element in storage
+  -- what a reference stands for: a variable or an element in storage, or a value, as that of a constant
   abbrev pub InStorage : Located → Type 0
   InStorage place = BoundIn place.kind place.bound
 
@@ -105,6 +105,12 @@ module _ (total : ℕ) (s : Setting) where
       by : (b : Bool) → Asks total (IsAddress total) (cond b (fails OutsideRegion) (address_written bound rest))
       by true = tt
       by false = address_asks total k bound h rest
+
+  -- a constant asks for no address
+  pub constant_asks : (entity : Entity) (value : Option Value) (args : Option (List Term)) (answers : List ℤ) → Asks total (InStorage total) (constant s entity value args answers)
+  constant_asks entity None args answers = tt
+  constant_asks entity (Some value) None answers = tt
+  constant_asks entity (Some value) (Some subscripts) answers = tt
 
   pub in_storage : (entity : Entity) (address : ℕ) → is_integer_kind entity.kind ≡ true → address < total → InStorage total (place_of s entity address)
   in_storage entity address e h = (h, omega (arith, h, one_cell total entity.kind entity.len e))

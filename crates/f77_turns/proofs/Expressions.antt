@@ -1,5 +1,6 @@
 -- What expressions and references with a meaning ask for lies in storage.
-use Rattle.std.proofs.Common.{◌≡◌, ℕ, ◌&&◌, ℤ, Bool, true, false, List, [], ◌∷◌, length, Option, None, Some, IsTrue, refl, sym, subst}
+use Rattle.std.proofs.Common.{◌≡◌, ℕ, ◌&&◌, ◌||◌, ℤ, Bool, true, false, List, [], ◌∷◌, length, Option, None, Some, IsTrue, refl, sym, subst}
+use Rattle.std.specs.Option.{is_some}
 use Rattle.f77_ast.specs.Entity.{entity_in}
 use Rattle.f77_ast.specs.declared.expr.Expr.{Expr}
 use Rattle.f77_ast.specs.declared.expr.Expr.TheFolds.{fold-roll-Expr, fold-roll-Ref, ind-Expr, ind-Ref, map-Expr, map-Ref}
@@ -11,12 +12,13 @@ use Rattle.f77_ast.specs.declared.expr.Ref.{Ref}
 use Rattle.f77_ast.specs.declared.program.Entity.{Entity}
 use Rattle.f77_ast.specs.declared.program.Place.{Place}
 use Rattle.f77_ast.specs.declared.program.Place.TheVariants.{Stored, Dummy, Constant}
-use Rattle.f77_structure.specs.HasMeaning.{expr_has_meaning, is_integer_variable, is_integer_vector, meaning_part, meaning_ref, meaning_step, ref_has_meaning}
-use Rattle.f77_structure.specs.Storage.{IsStorage, LiesIn, address_of_element}
-use Rattle.f77_structure.specs.Values.{binary_of, is_arithmetic, is_sign, unary_of}
+use Rattle.f77_structure.specs.HasMeaning.{expr_has_meaning, is_integer_constant, is_integer_variable, is_integer_vector, meaning_part, meaning_ref, meaning_step, ref_has_meaning}
+use Rattle.f77_structure.specs.Literals.{constant_number, literal_value}
+use Rattle.f77_structure.specs.Storage.{IsStorage, LiesIn, address_of_element, is_scalar}
+use Rattle.f77_structure.specs.Values.{binary_of, is_arithmetic, is_integer_kind, is_sign, unary_of}
 use Rattle.f77_meaning.specs.Demand.{gives, and_then, Bounds, Location, Setting, Term, bounds_of, demand_of, expr_step, located, located_by, location_of, number_demand, number_of, operated, part_step, place_by, ref_step, term_of, value_at}
 use Rattle.f77_meaning.proofs.Begins.{entity_lies}
-use Rattle.f77_turns.proofs.Cells.{Any, Asks, InStorage, both, element_asks, operator_asks, then_asks, value_asks, variable_asks}
+use Rattle.f77_turns.proofs.Cells.{Any, Asks, InStorage, both, constant_asks, element_asks, operator_asks, then_asks, value_asks, variable_asks}
 
 module _ (total : ℕ) (s : Setting) where
   -- the one subscript of a list, where it has a meaning, asks for what lies in storage
@@ -34,7 +36,25 @@ module _ (total : ℕ) (s : Setting) where
       by : (place : Place) → Asks total (InStorage total) (located_by s entity place None answers)
       by (Stored address) = variable_asks total s entity (lies entity refl) m answers
       by (Dummy k) = tt
-      by (Constant value) = tt
+      by (Constant value) = constant_asks total s entity (literal_value value) None answers
+
+  -- an INTEGER constant, without subscripts
+  named_constant_asks : (found : Option Entity) → is_integer_constant found ≡ true → (answers : List ℤ) → Asks total (InStorage total) (located s found None answers)
+  named_constant_asks None m answers = absurd (cc)
+  named_constant_asks (Some entity) m answers = by entity.place (both (is_some (constant_number entity.place)) (is_scalar entity.bounds) (both (is_integer_kind entity.kind) (is_some (constant_number entity.place) && is_scalar entity.bounds) m).1).0
+    where
+      by : (place : Place) → is_some (constant_number place) ≡ true → Asks total (InStorage total) (located_by s entity place None answers)
+      by (Stored address) there = absurd (cc)
+      by (Dummy k) there = tt
+      by (Constant value) there = constant_asks total s entity (literal_value value) None answers
+
+  -- a name without subscripts: an INTEGER variable or constant
+  alone_asks : (found : Option Entity) → ((entity : Entity) → found ≡ Some entity → LiesIn total s.program.layout.regions entity) → (is_integer_variable found || is_integer_constant found) ≡ true → (answers : List ℤ) → Asks total (InStorage total) (located s found None answers)
+  alone_asks found lies m answers = by (is_integer_variable found) refl m
+    where
+      by : (b : Bool) → is_integer_variable found ≡ b → (b || is_integer_constant found) ≡ true → Asks total (InStorage total) (located s found None answers)
+      by true variable either = scalar_asks found lies variable answers
+      by false variable either = named_constant_asks found either answers
 
   -- an element
   subscripted_asks : (found : Option Entity) → ((entity : Entity) → found ≡ Some entity → LiesIn total s.program.layout.regions entity) → is_integer_vector found ≡ true → (subscript : Term) → ((answers : List ℤ) → Asks total Any (subscript.value answers)) → (answers : List ℤ) → Asks total (InStorage total) (located s found (Some (subscript ∷ [])) answers)
@@ -46,7 +66,7 @@ module _ (total : ℕ) (s : Setting) where
           then_asks total Any (InStorage total) (subscript.value answers) (λ n rest. place_by s entity (address_of_element entity (number_of n)) rest) (h answers)
           (λ n rest good. element_asks total s entity (lies entity refl) m (number_of n) rest)
       by (Dummy k) = tt
-      by (Constant value) = tt
+      by (Constant value) = constant_asks total s entity (literal_value value) (Some (subscript ∷ [])) answers
 
 never : false ≡ true → ⊥
 never e = absurd (cc)
@@ -126,7 +146,7 @@ module _ (s : Setting) (storage : IsStorage s.program.layout) where
   found_lies name entity e = entity_lies total s.program.layout.regions s.program.layout.entities s.unit name entity storage.lie e
 
   ref_by : (y : Ref-F SomeExpr SomePart SomeRef) (args : Option (List SomeExpr)) (part : Option SomePart) → IsTrue (meaning_ref s.program.units s.program.layout s.unit (tested_ref (plain_ref (record y { args = args; part = part })))) → (answers : List ℤ) → Asks total (InStorage total) (ref_step s (evaluated_ref (plain_ref (record y { args = args; part = part }))) answers)
-  ref_by y None None m answers = scalar_asks total s (entity_in s.program.layout.entities s.unit y.name) (found_lies y.name) m answers
+  ref_by y None None m answers = alone_asks total s (entity_in s.program.layout.entities s.unit y.name) (found_lies y.name) m answers
   ref_by y (Some []) None m answers = absurd (never m)
   ref_by y (Some (x ∷ [])) None m answers =
       let n : (is_integer_vector (entity_in s.program.layout.entities s.unit y.name) ≡ true) × (expr_has_meaning s.program.units s.program.layout s.unit x.0 ≡ true) =
@@ -145,7 +165,7 @@ module _ (s : Setting) (storage : IsStorage s.program.layout) where
       (λ x y is. tt)
       (λ x y is. subst (λ z. RefAsks (roll-Ref z)) is (ref_layer y))
 
-  -- a reference with a meaning does, and is a place in storage
+  -- a reference with a meaning does, and is a place in storage or a constant
   pub location_asks : (r : Ref) → RefAsks r
   location_asks = ind-Ref ExprAsks PartAsks RefAsks
       (λ x y is. subst (λ z. ExprAsks (roll-Expr z)) is (expr_layer y))
