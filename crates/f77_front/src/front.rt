@@ -4,11 +4,12 @@ ghost use Rattle.f77_ast.specs.declared.refusal.Refusal.{Refusal};
 ghost use Rattle.f77_front.specs.Front.{front_of};
 ghost use Rattle.f77_meaning.specs.Sound.{IsSound};
 
-use crate::program::{program_of, units_of};
+use crate::program::program_of;
 use crate::statements::listing;
 use f77_ast::program::Program;
 use f77_ast::refusal::FrontError;
 use f77_cards::cards::cards;
+use f77_shape::shape::shape;
 use std::alloc::Global;
 
 /// The program that the bytes of a file make.
@@ -34,6 +35,6 @@ pub fn front(alloc: Global, bytes: &[u8]) -> Result<Program, FrontError>
 {
     let cards = cards(alloc, bytes)?;
     let statements = listing(alloc, cards)?;
-    let units = units_of(alloc, statements)?;
+    let units = shape(alloc, statements)?;
     program_of(alloc, units)
 }

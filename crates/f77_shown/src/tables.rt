@@ -145,21 +145,38 @@ fn show_total(word: &[u8], number: usize, into: &mut Bytes) -> Result<(), NoMemo
     into.push(b'\n')
 }
 
-/// Shows a layout: the line of each entity, with the region of the same place, and then `total 7`, the number of addresses.
-///
-/// Where the regions aren't as many as the entities, a line `regions 3` follows, and where the opening values aren't as
-/// many as the addresses, a line `values 3`.
-pub fn show_layout(layout: &Layout, into: &mut Bytes) -> Result<(), NoMemory> {
+/// How many regions an entity has of its own: one where it is stored.
+fn regions_of(entity: &Entity) -> usize {
+    match entity.place {
+        Place::Stored(_) => 1,
+        Place::Dummy(_) => 0,
+        Place::Constant(_) => 0,
+    }
+}
+
+/// Shows the entities of a layout, each stored one with the next region; their number.
+fn show_entities(layout: &Layout, into: &mut Bytes) -> Result<usize, NoMemory> {
     let regions = layout.regions.as_slice();
+    let mut stored: usize = 0;
     for place in 0..layout.entities.len() {
         if let Some(entity) = layout.entities.get(place) {
-            show_entity(entity, regions.get(place), into)?;
+            show_entity(entity, regions.get(stored), into)?;
+            stored = stored.saturating_add(regions_of(entity));
         }
     }
+    Ok(stored)
+}
+
+/// Shows a layout: the line of each entity, each stored one with the next region, and then `total 7`, the number of addresses.
+///
+/// Where the regions aren't as many as the stored entities, a line `regions 3` follows, and where the opening values aren't as
+/// many as the addresses, a line `values 3`.
+pub fn show_layout(layout: &Layout, into: &mut Bytes) -> Result<(), NoMemory> {
+    let stored = show_entities(layout, into)?;
     let total = layout.total as usize;
     show_total(b"total".as_slice(), total, into)?;
-    if regions.len() != layout.entities.len() {
-        show_total(b"regions".as_slice(), regions.len(), into)?;
+    if layout.regions.len() != stored {
+        show_total(b"regions".as_slice(), layout.regions.len(), into)?;
     }
     if layout.first.len() != total {
         show_total(b"values".as_slice(), layout.first.len(), into)?;

@@ -5,16 +5,17 @@ ghost use Rattle.f77_structure.specs.Units.{statement_count};
 use f77_ast::entities::Entities;
 use f77_ast::program::{Layout, Listed, Listing, Loops, Units};
 use f77_ast::refusal::{FrontError, Refusal};
+use f77_built::built::first_unbuilt;
 use f77_cards::cards::{Cards, cards};
 use f77_due::lacking::constants_break;
 use f77_kinds::kinds_break::kinds_break;
+use f77_layout::layout::layout_of as layout_with;
 use f77_loops::loops::loops;
 use f77_names::entities::entities_of;
 use f77_names::resolve::resolve;
 use f77_operands::limit::too_many_operands;
 use f77_shape::shape::shape;
 use f77_stmts::stmt::stmt;
-use f77_subset::subset::subset;
 use f77_uses::names::names_break;
 use hyb_base::no_memory::NoMemory;
 use std::alloc::Global;
@@ -75,10 +76,8 @@ pub fn units_of(alloc: Global, source: &[u8]) -> Result<Units, Unmade> {
 /// The units of a source, within the limit on operands.
 pub fn fitting_units_of(alloc: Global, source: &[u8]) -> Result<Units, Unmade> {
     let units = units_of(alloc, source)?;
-    match too_many_operands(alloc, units.as_slice())? {
-        None => Ok(units),
-        Some(refusal) => Err(Unmade::Refused(refusal)),
-    }
+    unless_refused(too_many_operands(alloc, units.as_slice())?)?;
+    Ok(units)
 }
 
 /// Whether the statements of units can be counted, as they can where the shape of their file isn't refused.
@@ -110,23 +109,10 @@ pub fn loops_of(alloc: Global, source: &[u8]) -> Result<Loops, Unmade> {
     loops_in(alloc, &units)
 }
 
-/// The layout of a source.
-pub fn layout_of(alloc: Global, source: &[u8]) -> Result<Layout, Unmade> {
-    let units = fitting_units_of(alloc, source)?;
-    let loops = loops_in(alloc, &units)?;
-    if !are_countable(&units) {
-        return Err(Unmade::TooLarge);
-    }
-    Ok(subset(alloc, &units, &loops)?)
-}
-
 /// The first statement of a source in which a constant is due, and there is none.
 pub fn due_of(alloc: Global, source: &[u8]) -> Result<(), Unmade> {
     let units = units_of(alloc, source)?;
-    match constants_break(alloc, units.as_slice())? {
-        None => Ok(()),
-        Some(refusal) => Err(Unmade::Refused(refusal)),
-    }
+    unless_refused(constants_break(alloc, units.as_slice())?)
 }
 
 /// The entities of a source.
@@ -150,17 +136,34 @@ pub fn resolved_in(alloc: Global, source: &[u8]) -> Result<Entities, Unmade> {
 /// The first refusal of a source by the rules on declarations and uses of names.
 pub fn uses_of(alloc: Global, source: &[u8]) -> Result<(), Unmade> {
     let units = units_of(alloc, source)?;
-    match names_break(alloc, units.as_slice())? {
-        None => Ok(()),
-        Some(refusal) => Err(Unmade::Refused(refusal)),
-    }
+    unless_refused(names_break(alloc, units.as_slice())?)
 }
 
 /// The first refusal of a source by the rules on kinds, and on numbers of subscripts and arguments.
 pub fn kinds_of(alloc: Global, source: &[u8]) -> Result<(), Unmade> {
     let units = units_of(alloc, source)?;
-    match kinds_break(alloc, units.as_slice())? {
+    unless_refused(kinds_break(alloc, units.as_slice())?)
+}
+
+/// Nothing, unless there is a refusal.
+fn unless_refused(refusal: Option<Refusal>) -> Result<(), Unmade> {
+    match refusal {
         None => Ok(()),
         Some(refusal) => Err(Unmade::Refused(refusal)),
+    }
+}
+
+/// The layout of a source that keeps all rules on names, within the limit on operands, and of which all is built.
+pub fn layout_of(alloc: Global, source: &[u8]) -> Result<Layout, Unmade> {
+    let units = units_of(alloc, source)?;
+    if units.len() > MOST_COUNTED {
+        return Err(Unmade::TooLarge);
+    }
+    let entities = resolve(alloc, units.as_slice())?;
+    unless_refused(too_many_operands(alloc, units.as_slice())?)?;
+    unless_refused(first_unbuilt(alloc, units.as_slice(), &entities)?)?;
+    match layout_with(alloc, entities)? {
+        None => Err(Unmade::TooLarge),
+        Some(layout) => Ok(layout),
     }
 }

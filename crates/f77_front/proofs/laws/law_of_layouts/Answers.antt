@@ -1,5 +1,5 @@
-use Rattle.f77_front.proofs.Programs.{laid_out}
+use Rattle.f77_front.proofs.Programs.{accepted_apart}
 use Rattle.f77_front.proofs.laws.law_of_layouts.Goals as goal
 
 pub returns : goal.returns
-returns c = laid_out
+returns c = accepted_apart
