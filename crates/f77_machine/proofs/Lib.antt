@@ -8,6 +8,7 @@ pub mod Halves
 pub mod Items
 pub mod Mains
 pub mod Meanings
+pub mod NamedArrays
 pub mod Room
 pub mod Shows
 pub mod Steps

@@ -1,5 +1,5 @@
 -- What has a meaning has it in its parts.
-use Rattle.std.proofs.Common.{◌≡◌, ℕ, ◌&&◌, ◌<◌, ◌≤◌, Bool, true, false, List, [], ◌∷◌, length, map, get_or, Option, None, Some, IsTrue, refl, sym, subst, ◌∙◌, arith}
+use Rattle.std.proofs.Common.{◌≡◌, ℕ, ◌&&◌, ◌<◌, ◌≤◌, Bool, true, false, List, [], ◌∷◌, length, map, get_or, Option, Some, IsTrue, refl, sym, subst, ◌∙◌, arith}
 use Rattle.std.specs.Option.{option_map}
 use Rattle.f77_ast.specs.declared.expr.Expr.{Expr, Binary}
 use Rattle.f77_ast.specs.declared.expr.Expr as expr_of
@@ -13,8 +13,8 @@ use Rattle.f77_ast.specs.declared.program.Entity.{Entity}
 use Rattle.f77_ast.specs.declared.program.Place.{Place}
 use Rattle.f77_ast.specs.declared.program.Place.TheVariants.{Stored, Dummy, Constant}
 use Rattle.f77_ast.specs.declared.program.Unit.{Unit as ProgramUnit}
-use Rattle.f77_structure.specs.HasMeaning.{expr_has_meaning, is_integer_vector, meaning_part, meaning_ref, meaning_step, names_integer}
-use Rattle.f77_structure.specs.Storage.{is_scalar, is_stored, is_vector}
+use Rattle.f77_structure.specs.HasMeaning.{expr_has_meaning, is_integer_variable, is_integer_vector, meaning_part, meaning_ref, meaning_step, names_integer}
+use Rattle.f77_structure.specs.Storage.{is_scalar, is_stored}
 use Rattle.f77_structure.specs.Values.{is_arithmetic, is_integer_kind}
 use Rattle.f77_ast.specs.declared.fault.Fault.TheVariants.{Subscript}
 use Rattle.f77_meaning.specs.Demand.{Bounds, Location, Setting, Term, and_then, demand_of, expr_step, fails, located, located_by, location_of, part_step, ref_step, stored, term_of, value_at}
@@ -64,15 +64,11 @@ subscript_means means entity subscript xs args e f h =
     second (is_integer_vector (Some entity)) (means subscript)
     (subst (λ ys. IsTrue (names_integer (Some entity) (Some (map means ys)))) f (subst (λ a. IsTrue (names_integer (Some entity) (option_map (map means) a))) e h))
 
--- an entity that a reference may name is stored
-pub entity_stored : (entity : Entity) (args : Option (List Bool)) → IsTrue (names_integer (Some entity) args) → is_stored entity.place ≡ true
-entity_stored entity None h = first (is_stored entity.place) (is_scalar entity.bounds) (second (is_integer_kind entity.kind) (is_stored entity.place && is_scalar entity.bounds) h)
-entity_stored entity (Some []) h = absurd (cc)
-entity_stored entity (Some (subscript ∷ [])) h =
-    first (is_stored entity.place) (is_vector entity.bounds) (second (is_integer_kind entity.kind) (is_stored entity.place && is_vector entity.bounds) (first (is_integer_vector (Some entity)) subscript h))
-entity_stored entity (Some (subscript ∷ second ∷ others)) h = absurd (cc)
+-- an INTEGER variable is stored
+pub variable_stored : (entity : Entity) → IsTrue (is_integer_variable (Some entity)) → is_stored entity.place ≡ true
+variable_stored entity h = first (is_stored entity.place) (is_scalar entity.bounds) (second (is_integer_kind entity.kind) (is_stored entity.place && is_scalar entity.bounds) h)
 
--- what such an entity with subscripts stands for
+-- what is in storage is located by its subscripts
 pub located_stored : (s : Setting) (entity : Entity) (args : Option (List Term)) (answers : List ℤ) → is_stored entity.place ≡ true → located s (Some entity) args answers ≡ stored s entity args answers
 located_stored s entity args answers h = by entity.place h
   where

@@ -1,7 +1,7 @@
 //! Assignment (ANSI X3.9-1978, section 10.1): which address takes which number.
 ghost use Rattle.std.specs.Prelude.{◌≡◌, ◌+◌, ◌<◌, ℤ, IsTrue, Some, length, pos};
 ghost use Rattle.std.specs.Option.{option_map};
-ghost use Rattle.f77_structure.specs.HasMeaning.{expr_has_meaning, ref_has_meaning};
+ghost use Rattle.f77_structure.specs.HasMeaning.{expr_has_meaning, target_has_meaning};
 ghost use Rattle.f77_structure.specs.Storage.{IsStorage};
 ghost use Rattle.f77_meaning.specs.Assign.{Accumulation, accumulated, plainly, written_of, accumulation_of};
 ghost use Rattle.f77_meaning.specs.Demand.{demand_of};
@@ -39,7 +39,7 @@ pub fn assigned<'a>(
     answers: &'a [i64],
 ) -> Evaluated<'a, Written>
     requires storage { IsStorage program.now.layout }
-    requires target { IsTrue (ref_has_meaning program.now.units program.now.layout unit target.now) }
+    requires target { IsTrue (target_has_meaning program.now.units program.now.layout unit target.now) }
     requires meaning { IsTrue (expr_has_meaning program.now.units program.now.layout unit value.now) }
     ensures value { written_demand result ≡ written_of (setting_in program.now unit) target.now value.now answers.now }
     ensures asks { Asks (length program.now.layout.first) (subscript_reads target.now + reads_in value.now) (length answers.now) result }

@@ -3,10 +3,10 @@ ghost use Rattle.std.specs.Prelude.{◌≡◌, ◌+◌, ◌<◌, ◌≤◌, ◌^
 ghost use Rattle.std.specs.Option.{option_map};
 ghost use Rattle.f77_ast.specs.declared.expr.Expr.{Binary};
 ghost use Rattle.f77_ast.specs.declared.expr.Kind.TheVariants.{Integer};
-ghost use Rattle.f77_structure.specs.HasMeaning.{expr_has_meaning, ref_has_meaning, names_integer};
-ghost use Rattle.f77_structure.specs.Storage.{IsStorage, LiesIn};
+ghost use Rattle.f77_structure.specs.HasMeaning.{expr_has_meaning, ref_has_meaning, target_has_meaning, names_integer};
+ghost use Rattle.f77_structure.specs.Storage.{IsStorage, LiesIn, is_stored};
 ghost use Rattle.f77_structure.specs.Values.{integer, is_sign, is_arithmetic, number_or_zero_divisor, unary_of, binary_of};
-ghost use Rattle.f77_meaning.specs.Demand.{Setting, demand_of, location_of, located, term_of, value_at, operated};
+ghost use Rattle.f77_meaning.specs.Demand.{Setting, and_then, demand_of, location_of, located, term_of, value_at, operated};
 ghost use Rattle.f77_machine.specs.Evaluated.{as_located, located_demand, value_demand, Asks, GivesIntegerBelow};
 ghost use Rattle.f77_machine.specs.Reads.{reads_in, args_reads, subscript_reads};
 ghost use Rattle.f77_machine.specs.Setting.{setting_in};
@@ -16,11 +16,12 @@ use crate::place::{Located, element, entity, variable};
 use f77_ast::expr::{Expr, Op, Ref};
 use f77_ast::fault::Fault;
 use f77_ast::program::{Entity, Program};
+use f77_structure::storage::constant_number;
 use hyb_base::wrap::{wrap_add, wrap_div, wrap_mul, wrap_neg, wrap_pow, wrap_sub};
 use sqlite_items::Items;
 
 /// Evaluates an expression of type INTEGER in a unit from left to right, taking the values that it reads from the
-/// answers. A reference reads its subscript, and then its address.
+/// answers. A reference reads its subscript, and then its address; a constant's name reads nothing.
 #[cycle(demand)]
 pub fn demand<'a>(
     program: &Program,
@@ -37,11 +38,7 @@ pub fn demand<'a>(
         Expr::Int(value) => Evaluated::Gives(*value, answers),
         Expr::Truth(_) => unreachable!(),
         Expr::Chars(_) => unreachable!(),
-        Expr::Ref(reference) => match location(program, unit, reference, answers) {
-            Evaluated::Gives(place, rest) => integer_at(place, rest),
-            Evaluated::Wants(address, by) => Evaluated::Wants(address, by),
-            Evaluated::Fails(fault) => Evaluated::Fails(fault),
-        },
+        Expr::Ref(reference) => reference_value(program, unit, reference, answers),
         Expr::Unary(op, operand) => match demand(program, unit, operand.get(), answers) {
             Evaluated::Gives(x, rest) => unary(*op, x, rest),
             Evaluated::Wants(address, by) => Evaluated::Wants(address, by),
@@ -81,28 +78,54 @@ fn operands_have_meaning(
     ensures right { IsTrue (expr_has_meaning program.now.units program.now.layout unit right.now) }
 {}
 
-/// What a reference stands for: a variable, or an array's element, whose subscript is evaluated first
-/// and then checked (section 5.4).
+/// The value of a reference. A constant is its number, without a read (section 8.6); a variable or an element is read at
+/// its address.
 #[cycle(demand)]
-pub fn location<'a>(
+fn reference_value<'a>(
     program: &Program,
     unit: u32,
     reference: &Ref,
     answers: &'a [i64],
-) -> Evaluated<'a, Located>
+) -> Evaluated<'a, i64>
     requires storage { IsStorage program.now.layout }
     requires meaning { IsTrue (ref_has_meaning program.now.units program.now.layout unit reference.now) }
-    ensures value { located_demand program.now.layout result ≡ location_of (setting_in program.now unit) reference.now answers.now }
-    ensures asks { Asks (length program.now.layout.first) (subscript_reads reference.now) (length answers.now) result }
-    ensures lies { GivesIntegerBelow (length program.now.layout.first) result }
+    ensures value { value_demand result ≡ and_then (location_of (setting_in program.now unit) reference.now answers.now) (value_at (setting_in program.now unit)) }
+    ensures asks { Asks (length program.now.layout.first) (1 + subscript_reads reference.now) (length answers.now) result }
 {
     match entity(&program.layout, unit, &reference.name) {
-        Some(entity) => located(program, unit, entity, &reference.args, answers),
+        Some(entity) => match constant_number(&entity.place) {
+            Some(number) => Evaluated::Gives(number, answers),
+            None => match located(program, unit, entity, &reference.args, answers) {
+                Evaluated::Gives(place, rest) => integer_at(place, rest),
+                Evaluated::Wants(address, by) => Evaluated::Wants(address, by),
+                Evaluated::Fails(fault) => Evaluated::Fails(fault),
+            },
+        },
         None => Evaluated::Fails(Fault::Subscript),
     }
 }
 
-/// What an entity with such a list of subscripts stands for.
+/// What the left side of an assignment names: a variable, or an array's element, whose subscript is evaluated first and
+/// then checked (section 5.4).
+pub fn location<'a>(
+    program: &Program,
+    unit: u32,
+    target: &Ref,
+    answers: &'a [i64],
+) -> Evaluated<'a, Located>
+    requires storage { IsStorage program.now.layout }
+    requires meaning { IsTrue (target_has_meaning program.now.units program.now.layout unit target.now) }
+    ensures value { located_demand program.now.layout result ≡ location_of (setting_in program.now unit) target.now answers.now }
+    ensures asks { Asks (length program.now.layout.first) (subscript_reads target.now) (length answers.now) result }
+    ensures lies { GivesIntegerBelow (length program.now.layout.first) result }
+{
+    match entity(&program.layout, unit, &target.name) {
+        Some(entity) => located(program, unit, entity, &target.args, answers),
+        None => Evaluated::Fails(Fault::Subscript),
+    }
+}
+
+/// The place of an entity in storage with such a list of subscripts.
 #[cycle(demand)]
 fn located<'a>(
     program: &Program,
@@ -113,6 +136,7 @@ fn located<'a>(
 ) -> Evaluated<'a, Located>
     requires storage { IsStorage program.now.layout }
     requires lies { LiesIn (length program.now.layout.first) program.now.layout.regions entity.now }
+    requires stored { IsTrue (is_stored entity.now.place) }
     requires meaning { IsTrue (names_integer (Some entity.now) (option_map (map (expr_has_meaning program.now.units program.now.layout unit)) args.now)) }
     ensures value { located_demand program.now.layout result ≡ located (setting_in program.now unit) (Some entity.now) (option_map (map (term_of (setting_in program.now unit))) args.now) answers.now }
     ensures asks { Asks (length program.now.layout.first) (args_reads (option_map (map reads_in) args.now)) (length answers.now) result }

@@ -75,7 +75,7 @@ impl Process {
     ghost use Rattle.f77_ast.specs.declared.program.Program.{Program};
     ghost use Rattle.f77_ast.specs.declared.step.Control.TheVariants.{Began};
     ghost use Rattle.f77_ast.specs.declared.step.Stepped.TheVariants.{Inner};
-    ghost use Rattle.f77_structure.specs.HasMeaning.{expr_has_meaning, ref_has_meaning, item_has_meaning, control_has_meaning, statement_has_meaning};
+    ghost use Rattle.f77_structure.specs.HasMeaning.{expr_has_meaning, target_has_meaning, item_has_meaning, control_has_meaning, statement_has_meaning};
     ghost use Rattle.f77_structure.specs.Storage.{IsStorage};
     ghost use Rattle.f77_structure.specs.Units.{listing_of, source_line, statement_number};
     ghost use Rattle.f77_io.specs.Input.{left_of};
@@ -287,7 +287,7 @@ impl Process {
         cells: &mut C,
     ) -> Stepped
         requires storage { IsStorage program.now.layout }
-        requires target { IsTrue (ref_has_meaning program.now.units program.now.layout self.old.unit target.now) }
+        requires target { IsTrue (target_has_meaning program.now.units program.now.layout self.old.unit target.now) }
         requires meaning { IsTrue (expr_has_meaning program.now.units program.now.layout self.old.unit value.now) }
         requires room { subscript_reads target.now + reads_in value.now ≤ self.old.room }
         requires fits { Fits program.now.layout (C.values cells.old) }
