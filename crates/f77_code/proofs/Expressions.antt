@@ -1,10 +1,11 @@
 -- The code of an expression leaves its value, and that of a reference its place.
 use Rattle.std.proofs.Common.{◌≡◌, ℕ, ℤ, Bool, true, false, cond, List, [], ◌∷◌, ◌++◌, Option, None, Some, IsTrue, refl, sym, ap, subst, ◌∙◌, append_assoc, slice_get}
-use Rattle.std.specs.Prelude.{◌&&◌}
+use Rattle.std.specs.Prelude.{◌&&◌, ◌||◌}
+use Rattle.std.specs.Option.{is_some}
 use Rattle.f77_ast.specs.Entity.{entity_in, is_named, number_in}
 use Rattle.f77_ast.specs.declared.code.Instr.{Instr}
 use Rattle.f77_ast.specs.declared.code.Instr.TheVariants as instr
-use Rattle.f77_ast.specs.declared.expr.Expr.{Expr}
+use Rattle.f77_ast.specs.declared.expr.Expr.{Expr, out-Expr}
 use Rattle.f77_ast.specs.declared.expr.Expr.TheFolds.{fold-Part, fold-roll-Expr, fold-roll-Ref, ind-Expr, ind-Ref, map-Expr, map-Ref}
 use Rattle.f77_ast.specs.declared.expr.Expr.TheOpen.{Expr-F, Part-F, Ref-F}
 use Rattle.f77_ast.specs.declared.expr.Expr.TheOpen as layer
@@ -15,14 +16,15 @@ use Rattle.f77_ast.specs.declared.program.Entity.{Entity}
 use Rattle.f77_ast.specs.declared.program.Place.{Place}
 use Rattle.f77_ast.specs.declared.program.Place.TheVariants.{Stored, Dummy, Constant}
 use Rattle.f77_ast.specs.declared.program.Program.{Program}
-use Rattle.f77_structure.specs.HasMeaning.{expr_has_meaning, is_integer_variable, is_integer_vector, meaning_part, meaning_ref, meaning_step, ref_has_meaning}
-use Rattle.f77_structure.specs.Storage.{address_of_element, address_of_variable, is_scalar, is_stored, is_vector, stored_at}
-use Rattle.f77_structure.specs.Values.{binary_of, is_arithmetic, is_integer_kind, is_sign, unary_of}
-use Rattle.f77_meaning.specs.Demand.{Bounds, Evaluation, Located, Location, Setting, Term, and_then, bounds_of, demand_of, expr_step, gives, located, located_by, location_of, number_of, operated, part_step, place_by, place_of, ref_step, setting_of, stored, term, term_of, value_at}
+use Rattle.f77_structure.specs.HasMeaning.{expr_has_meaning, is_integer_constant, is_integer_variable, is_integer_vector, meaning_part, meaning_ref, meaning_step, ref_has_meaning}
+use Rattle.f77_structure.specs.Literals.{constant_number, literal_layer}
+use Rattle.f77_structure.specs.Storage.{address_of_element, address_of_variable, is_scalar, is_stored, is_vector, literal_number, stored_at}
+use Rattle.f77_structure.specs.Values.{binary_of, integer, is_arithmetic, is_integer_kind, is_sign, unary_of}
+use Rattle.f77_meaning.specs.Demand.{Bounds, Evaluation, Located, Location, Setting, Term, and_then, bounds_of, constant, demand_of, expr_step, gives, located, located_by, location_of, number_of, operated, part_step, place_by, place_of, ref_step, setting_of, stored, term, term_of, value_at}
 use Rattle.f77_meaning.specs.Operands.{Stack, entity, place, value}
 use Rattle.f77_meaning.specs.Perform.{asked, given, performed, with_found}
 use Rattle.f77_meaning.specs.Print.{Printing}
-use Rattle.f77_meaning.specs.Process.{Frame}
+use Rattle.f77_meaning.specs.Process.{Frame, valued}
 use Rattle.f77_code.specs.Exprs.{code_part, code_ref, code_step, expr_code, place_code, ref_code}
 use Rattle.f77_code.proofs.Asking.{LeavesPlace, LeavesValue, asked_same, asked_then, asked_where, with_place_there}
 use Rattle.f77_code.proofs.Entities.{HasNumber, found_at}
@@ -66,17 +68,37 @@ module _ (program : Program) (texts : List (List ℕ)) (below : List Frame) (p :
   pub entity_left : (number : ℕ) (e : Entity) (is : List Instr) (stack : Stack) (answers : List ℤ) → slice_get program.layout.entities number ≡ Some e → performed program texts below (instr.Entity number ∷ is) stack answers p ≡ performed program texts below is (entity e ∷ stack) answers p
   entity_left number e is stack answers h = ap (λ o. with_found o (λ x. performed program texts below is (entity x ∷ stack) answers p)) h
 
+  -- an entity without subscripts, which stands for this
+  alone_leaves : (number : ℕ) (e : Entity) (at : Located) → slice_get program.layout.entities number ≡ Some e → ((answers : List ℤ) → located s (Some e) None answers ≡ gives at answers) → LeavesPlace program texts below p (instr.Entity number ∷ []) (located s (Some e) None)
+  alone_leaves number e at h gone = record {
+    operand = λ x. entity e;
+    leaves = λ is stack answers. entity_left number e is stack answers h ∙ sym (ap (λ d. asked program texts below d p (λ x rest. performed program texts below is (entity e ∷ stack) rest p)) (gone answers));
+    there = λ answers rest x g more. gone more ∙ ap (λ y. gives y more) (let both : gives at answers ≡ gives x rest = sym (gone answers) ∙ g in let same : at ≡ x = cc in same);
+  }
+
   -- a variable
   variable_leaves : (number : ℕ) (e : Entity) → slice_get program.layout.entities number ≡ Some e → is_stored e.place ≡ true → is_scalar e.bounds ≡ true → LeavesPlace program texts below p (instr.Entity number ∷ []) (located s (Some e) None)
   variable_leaves number e h is_there scalar =
       let a : HasAddress e = has_address e is_there scalar in
-      let at : Located = place_of s e a.address in
-      let gone : (answers : List ℤ) → located s (Some e) None answers ≡ gives at answers = λ answers. located_stored s e None answers is_there ∙ ap (λ o. place_by s e o answers) a.is in
-      record {
-        operand = λ x. entity e;
-        leaves = λ is stack answers. entity_left number e is stack answers h ∙ sym (ap (λ d. asked program texts below d p (λ x rest. performed program texts below is (entity e ∷ stack) rest p)) (gone answers));
-        there = λ answers rest x g more. gone more ∙ ap (λ y. gives y more) (let both : gives at answers ≡ gives x rest = sym (gone answers) ∙ g in let same : at ≡ x = cc in same);
-      }
+      alone_leaves number e (place_of s e a.address) h (λ answers. located_stored s e None answers is_there ∙ ap (λ o. place_by s e o answers) a.is)
+
+  -- a constant
+  constant_leaves : (number : ℕ) (e : Entity) → slice_get program.layout.entities number ≡ Some e → IsTrue (is_some (constant_number e.place)) → LeavesPlace program texts below p (instr.Entity number ∷ []) (located s (Some e) None)
+  constant_leaves number e h is_number = by e.place refl is_number
+    where
+      literal : (x : Expr-F Expr Part Ref) → IsTrue (is_some (literal_number x)) → ((answers : List ℤ) → located s (Some e) None answers ≡ constant s e (literal_layer x) None answers) → LeavesPlace program texts below p (instr.Entity number ∷ []) (located s (Some e) None)
+      literal (layer.Int n) m gone = alone_leaves number e (record { kind = e.kind; bound = valued (integer n) }) h gone
+      literal (layer.Truth b) m gone = absurd (cc)
+      literal (layer.Chars text) m gone = absurd (cc)
+      literal (layer.Ref r) m gone = absurd (cc)
+      literal (layer.Unary o x) m gone = absurd (cc)
+      literal (layer.Binary o x y) m gone = absurd (cc)
+      literal (layer.Paren x) m gone = absurd (cc)
+
+      by : (at : Place) → e.place ≡ at → IsTrue (is_some (constant_number at)) → LeavesPlace program texts below p (instr.Entity number ∷ []) (located s (Some e) None)
+      by (Stored address) same m = absurd (cc)
+      by (Dummy k) same m = absurd (cc)
+      by (Constant x) same m = literal (out-Expr x) m (λ answers. ap (λ at. located_by s e at None answers) same)
 
   -- an element
   element_leaves : (number : ℕ) (e : Entity) (subscript : Term) (code : List Instr) → slice_get program.layout.entities number ≡ Some e → is_stored e.place ≡ true → LeavesValue program texts below p code subscript.value → LeavesPlace program texts below p (instr.Entity number ∷ code ++ instr.Index 1 ∷ []) (located s (Some e) (Some (subscript ∷ [])))
@@ -208,6 +230,20 @@ module _ (program : Program) (texts : List (List ℕ)) (below : List Frame) (p :
       subst (λ n. LeavesPlace program texts below p (place_code n None None) (located s (Some found) None)) (sym h.is)
       (variable_leaves h.number found h.stands (first_of_two (is_stored found.place) (is_scalar found.bounds) both) (second_of_two (is_stored found.place) (is_scalar found.bounds) both))
 
+  -- a constant, by its name
+  constant_named : (name : List ℕ) (found : Option Entity) → entity_in program.layout.entities p.frame.unit name ≡ found → IsTrue (is_integer_constant found) → LeavesPlace program texts below p (place_code (number_in program.layout.entities p.frame.unit name) None None) (located s found None)
+  constant_named name None e m = absurd (cc)
+  constant_named name (Some found) e m =
+      let h : HasNumber program.layout.entities (number_in program.layout.entities p.frame.unit name) found = found_at (is_named p.frame.unit name) program.layout.entities found e in
+      let both = second_of_two (is_integer_kind found.kind) (is_some (constant_number found.place) && is_scalar found.bounds) m in
+      subst (λ n. LeavesPlace program texts below p (place_code n None None) (located s (Some found) None)) (sym h.is)
+      (constant_leaves h.number found h.stands (first_of_two (is_some (constant_number found.place)) (is_scalar found.bounds) both))
+
+  -- either of them
+  alone_named : (name : List ℕ) (found : Option Entity) (v : Bool) → is_integer_variable found ≡ v → entity_in program.layout.entities p.frame.unit name ≡ found → IsTrue (v || is_integer_constant found) → LeavesPlace program texts below p (place_code (number_in program.layout.entities p.frame.unit name) None None) (located s found None)
+  alone_named name found true same e m = variable_named name found e same
+  alone_named name found false same e m = constant_named name found e m
+
   -- an element, by the name of its array
   element_named : (name : List ℕ) (x : SomeExpr) (found : Option Entity) → entity_in program.layout.entities p.frame.unit name ≡ found → IsTrue (is_integer_vector found && expr_has_meaning program.units program.layout p.frame.unit x.0) →
       LeavesPlace program texts below p (place_code (number_in program.layout.entities p.frame.unit name) (Some (expr_code program.layout p.frame.unit x.0 ∷ [])) None) (located s found (Some (term_of s x.0 ∷ [])))
@@ -221,7 +257,7 @@ module _ (program : Program) (texts : List (List ℕ)) (below : List Frame) (p :
       (x.1 (second_of_two (is_integer_vector (Some found)) (expr_has_meaning program.units program.layout p.frame.unit x.0) m)))
 
   ref_by : (y : Ref-F SomeExpr SomePart SomeRef) (args : Option (List SomeExpr)) (part : Option SomePart) → IsTrue (meaning_ref program.units program.layout p.frame.unit (tested_ref (plain_ref (record y { args = args; part = part })))) → LeavesPlace program texts below p (code_ref program.layout p.frame.unit (coded_ref (plain_ref (record y { args = args; part = part })))) (ref_step s (termed_ref (plain_ref (record y { args = args; part = part }))))
-  ref_by y None None m = variable_named y.name (entity_in program.layout.entities p.frame.unit y.name) refl m
+  ref_by y None None m = alone_named y.name (entity_in program.layout.entities p.frame.unit y.name) (is_integer_variable (entity_in program.layout.entities p.frame.unit y.name)) refl refl m
   ref_by y (Some []) None m = absurd (cc)
   ref_by y (Some (x ∷ [])) None m = element_named y.name x (entity_in program.layout.entities p.frame.unit y.name) refl m
   ref_by y (Some (x ∷ z ∷ others)) None m = absurd (cc)

@@ -1,9 +1,10 @@
 -- Expressions that have a meaning give numbers.
-use Rattle.std.proofs.Common.{◌≡◌, ℕ, ℤ, Bool, false, List, [], ◌∷◌, Option, None, Some, IsTrue, refl, sym, ap, subst, ◌∙◌}
+use Rattle.std.proofs.Common.{◌≡◌, ◌||◌, ℕ, ℤ, Bool, true, false, List, [], ◌∷◌, Option, None, Some, IsTrue, refl, sym, ap, subst, ◌∙◌}
 use Rattle.std.specs.Prelude.{◌&&◌}
+use Rattle.std.specs.Option.{is_some}
 use Rattle.hyb_base.specs.Wrap.{power_of, quotient_of}
 use Rattle.f77_ast.specs.Entity.{entity_in}
-use Rattle.f77_ast.specs.declared.expr.Expr.{Expr}
+use Rattle.f77_ast.specs.declared.expr.Expr.{Expr, out-Expr}
 use Rattle.f77_ast.specs.declared.expr.Expr.TheFolds.{fold-Part, fold-roll-Expr, fold-roll-Ref, ind-Expr, map-Expr, map-Ref}
 use Rattle.f77_ast.specs.declared.expr.Expr.TheOpen.{Expr-F, Part-F, Ref-F}
 use Rattle.f77_ast.specs.declared.expr.Expr.TheOpen as layer
@@ -17,12 +18,13 @@ use Rattle.f77_ast.specs.declared.expr.Ref.{Ref}
 use Rattle.f77_ast.specs.declared.program.Entity.{Entity}
 use Rattle.f77_ast.specs.declared.program.Place.{Place}
 use Rattle.f77_ast.specs.declared.program.Place.TheVariants.{Stored, Dummy, Constant}
-use Rattle.f77_structure.specs.HasMeaning.{expr_has_meaning, is_integer_vector, meaning_part, meaning_ref, meaning_step, names_integer, ref_has_meaning}
-use Rattle.f77_structure.specs.Storage.{address_of_element, address_of_variable, is_scalar, is_stored, is_vector}
+use Rattle.f77_structure.specs.HasMeaning.{expr_has_meaning, is_integer_constant, is_integer_variable, is_integer_vector, meaning_part, meaning_ref, meaning_step, names_integer, ref_has_meaning}
+use Rattle.f77_structure.specs.Literals.{constant_number, literal_layer}
+use Rattle.f77_structure.specs.Storage.{address_of_element, address_of_variable, is_scalar, is_stored, is_vector, literal_number}
 use Rattle.f77_structure.specs.Values.{Value, binary_of, chars, integer, is_arithmetic, is_integer_kind, is_sign, number_or_zero_divisor, truth, unary_of, value_of_units}
-use Rattle.f77_meaning.specs.Demand.{Bounds, Demand, Evaluation, Location, Setting, Term, and_then, bounds_of, calls, cells_from, demand_of, expr_step, fails, gives, located, located_by, location_of, number_of, operated, part_step, place_by, ref_step, stored, term_of, value_at, value_of_bound, wants, width}
+use Rattle.f77_meaning.specs.Demand.{Bounds, Demand, Evaluation, Location, Setting, Term, and_then, bounds_of, calls, cells_from, constant, demand_of, expr_step, fails, gives, located, located_by, location_of, number_of, operated, part_step, place_by, ref_step, stored, term_of, value_at, value_of_bound, wants, width}
 use Rattle.f77_meaning.specs.Process.{placed}
-use Rattle.f77_code.proofs.Expressions.{first_of_two}
+use Rattle.f77_code.proofs.Expressions.{first_of_two, second_of_two}
 
 -- a value is the number that it is
 abbrev as_integer : Value → List ℤ → Demand Value
@@ -35,11 +37,6 @@ pub record GivesNumber (d : Evaluation) : Type 0 where
 -- what a location gives is the place of an INTEGER
 pub record StandsForInteger (location : Location) : Type 0 where
   pub same : (s : Setting) (answers : List ℤ) → and_then (and_then (location answers) (value_at s)) as_integer ≡ and_then (location answers) (value_at s)
-
--- whether an entity is of type INTEGER
-abbrev is_integer_entity : Option Entity → Bool
-is_integer_entity None = false
-is_integer_entity (Some e) = is_integer_kind e.kind
 
 -- one evaluation after another
 pub twice : {A B C : Type 0} (d : Demand A) (f : A → List ℤ → Demand B) (g : B → List ℤ → Demand C) → and_then (and_then d f) g ≡ and_then d (λ x rest. and_then (f x rest) g)
@@ -124,9 +121,29 @@ by_address : (s t : Setting) (e : Entity) (o : Option ℕ) (rest : List ℤ) →
 by_address s t e (Some address) rest h = place_gives t address _ e.len e.kind rest h
 by_address s t e None rest h = refl
 
-located_integer : (s : Setting) (found : Option Entity) (args : Option (List Term)) → IsTrue (is_integer_entity found) → StandsForInteger (located s found args)
-located_integer s None args h = absurd (cc)
-located_integer s (Some e) args h = record { same = λ t answers. by t e.place answers args }
+-- what is a constant is a number
+abbrev NumberIfConstant : Place → Type 0
+NumberIfConstant (Stored address) = Unit {0}
+NumberIfConstant (Dummy k) = Unit {0}
+NumberIfConstant (Constant x) = IsTrue (is_some (constant_number (Constant x)))
+
+abbrev IsIntegerHere : Option Entity → Type 0
+IsIntegerHere None = ⊥
+IsIntegerHere (Some e) = IsTrue (is_integer_kind e.kind) × NumberIfConstant e.place
+
+constant_gives : (s t : Setting) (e : Entity) (x : Expr-F Expr Part Ref) (answers : List ℤ) (args : Option (List Term)) → IsTrue (is_some (literal_number x)) → and_then (and_then (constant s e (literal_layer x) args answers) (value_at t)) as_integer ≡ and_then (constant s e (literal_layer x) args answers) (value_at t)
+constant_gives s t e (layer.Int n) answers None h = refl
+constant_gives s t e (layer.Int n) answers (Some others) h = refl
+constant_gives s t e (layer.Truth b) answers args h = absurd (cc)
+constant_gives s t e (layer.Chars text) answers args h = absurd (cc)
+constant_gives s t e (layer.Ref r) answers args h = absurd (cc)
+constant_gives s t e (layer.Unary o x) answers args h = absurd (cc)
+constant_gives s t e (layer.Binary o x y) answers args h = absurd (cc)
+constant_gives s t e (layer.Paren x) answers args h = absurd (cc)
+
+located_integer : (s : Setting) (found : Option Entity) (args : Option (List Term)) → IsIntegerHere found → StandsForInteger (located s found args)
+located_integer s None args h = absurd h
+located_integer s (Some e) args (h, number) = record { same = λ t answers. by t e.place number answers args }
   where
     element : (t : Setting) (d : Demand Value) → and_then (and_then (and_then d (λ x rest. place_by s e (address_of_element e (number_of x)) rest)) (value_at t)) as_integer ≡ and_then (and_then d (λ x rest. place_by s e (address_of_element e (number_of x)) rest)) (value_at t)
     element t (gives x rest) = by_address s t e (address_of_element e (number_of x)) rest h
@@ -140,20 +157,45 @@ located_integer s (Some e) args h = record { same = λ t answers. by t e.place a
     stored_gives t answers (Some (x ∷ [])) = element t (x.value answers)
     stored_gives t answers (Some (x ∷ y ∷ others)) = refl
 
-    by : (t : Setting) (at : Place) (answers : List ℤ) (args : Option (List Term)) → and_then (and_then (located_by s e at args answers) (value_at t)) as_integer ≡ and_then (located_by s e at args answers) (value_at t)
-    by t (Stored address) answers args = stored_gives t answers args
-    by t (Dummy k) answers args = refl
-    by t (Constant x) answers args = refl
+    by : (t : Setting) (at : Place) → NumberIfConstant at → (answers : List ℤ) (args : Option (List Term)) → and_then (and_then (located_by s e at args answers) (value_at t)) as_integer ≡ and_then (located_by s e at args answers) (value_at t)
+    by t (Stored address) n answers args = stored_gives t answers args
+    by t (Dummy k) n answers args = refl
+    by t (Constant x) n answers args = constant_gives s t e (out-Expr x) answers args n
+
+-- what is stored is no constant
+stored_number : (at : Place) → is_stored at ≡ true → NumberIfConstant at
+stored_number (Stored address) h = tt
+stored_number (Dummy k) h = tt
+stored_number (Constant x) h = absurd (cc)
+
+number_here : (at : Place) → IsTrue (is_some (constant_number at)) → NumberIfConstant at
+number_here (Stored address) h = tt
+number_here (Dummy k) h = tt
+number_here (Constant x) h = h
+
+-- a name without subscripts that has a meaning is that of a variable or a constant
+alone_named : (e : Entity) (v : Bool) → is_integer_variable (Some e) ≡ v → IsTrue (v || is_integer_constant (Some e)) → IsIntegerHere (Some e)
+alone_named e true same h =
+    let both = second_of_two (is_integer_kind e.kind) (is_stored e.place && is_scalar e.bounds) same in
+    (first_of_two (is_integer_kind e.kind) (is_stored e.place && is_scalar e.bounds) same, stored_number e.place (first_of_two (is_stored e.place) (is_scalar e.bounds) both))
+alone_named e false same h =
+    let both = second_of_two (is_integer_kind e.kind) (is_some (constant_number e.place) && is_scalar e.bounds) h in
+    (first_of_two (is_integer_kind e.kind) (is_some (constant_number e.place) && is_scalar e.bounds) h, number_here e.place (first_of_two (is_some (constant_number e.place)) (is_scalar e.bounds) both))
+
+vector_named : (e : Entity) → IsTrue (is_integer_vector (Some e)) → IsIntegerHere (Some e)
+vector_named e h =
+    let both = second_of_two (is_integer_kind e.kind) (is_stored e.place && is_vector e.bounds) h in
+    (first_of_two (is_integer_kind e.kind) (is_stored e.place && is_vector e.bounds) h, stored_number e.place (first_of_two (is_stored e.place) (is_vector e.bounds) both))
 
 -- what has a meaning is the name of an INTEGER
-integer_named : (found : Option Entity) (args : Option (List Bool)) → IsTrue (names_integer found args) → IsTrue (is_integer_entity found)
+integer_named : (found : Option Entity) (args : Option (List Bool)) → IsTrue (names_integer found args) → IsIntegerHere found
 integer_named None None h = absurd (cc)
 integer_named None (Some []) h = absurd (cc)
 integer_named None (Some (x ∷ [])) h = absurd (cc)
 integer_named None (Some (x ∷ y ∷ others)) h = absurd (cc)
-integer_named (Some e) None h = first_of_two (is_integer_kind e.kind) (is_stored e.place && is_scalar e.bounds) h
+integer_named (Some e) None h = alone_named e (is_integer_variable (Some e)) refl h
 integer_named (Some e) (Some []) h = absurd (cc)
-integer_named (Some e) (Some (x ∷ [])) h = first_of_two (is_integer_kind e.kind) (is_stored e.place && is_vector e.bounds) (first_of_two (is_integer_vector (Some e)) x h)
+integer_named (Some e) (Some (x ∷ [])) h = vector_named e (first_of_two (is_integer_vector (Some e)) x h)
 integer_named (Some e) (Some (x ∷ y ∷ others)) h = absurd (cc)
 
 module _ (s : Setting) where

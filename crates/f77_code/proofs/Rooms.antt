@@ -17,7 +17,7 @@ use Rattle.f77_ast.specs.declared.expr.Expr.TheViews.{roll-Expr, roll-Ref}
 use Rattle.f77_ast.specs.declared.expr.Op.{Op}
 use Rattle.f77_ast.specs.declared.expr.Op.TheVariants as op_of
 use Rattle.f77_ast.specs.declared.expr.Part.{Part}
-use Rattle.f77_ast.specs.declared.expr.Ref.{Ref}
+use Rattle.f77_ast.specs.declared.expr.Ref.{Ref, out-Ref}
 use Rattle.f77_ast.specs.declared.program.Entity.{Entity}
 use Rattle.f77_ast.specs.declared.program.Loop.{Loop}
 use Rattle.f77_ast.specs.declared.program.Program.{Program}
@@ -33,7 +33,7 @@ use Rattle.f77_ast.specs.declared.stmt.Stmt.TheFolds.{fold-roll-Stmt}
 use Rattle.f77_ast.specs.declared.stmt.Stmt.TheOpen as stmt_layer
 use Rattle.f77_ast.specs.declared.stmt.Stmt.TheVariants.{rolls-Assign, rolls-Do, rolls-Print}
 use Rattle.f77_structure.specs.Arrays.{array_named}
-use Rattle.f77_structure.specs.HasMeaning.{control_has_meaning, expr_has_meaning, increment_has_meaning, is_integer_variable, is_integer_vector, item_has_meaning, meaning_part, meaning_ref, meaning_step, ref_has_meaning, statement_has_meaning}
+use Rattle.f77_structure.specs.HasMeaning.{control_has_meaning, expr_has_meaning, increment_has_meaning, is_integer_constant, is_integer_variable, is_integer_vector, is_kept, item_has_meaning, meaning_part, meaning_ref, meaning_step, ref_has_meaning, statement_has_meaning, target_has_meaning}
 use Rattle.f77_structure.specs.Loops.{loop_with_range_from}
 use Rattle.f77_structure.specs.Needs.{control_need, expr_need, expr_step, item_need, item_step, need_of, option_need, part_step, ref_need, ref_step, stmt_step}
 use Rattle.f77_structure.specs.Statements.{is_executable}
@@ -164,9 +164,9 @@ module _ (program : Program) (unit : ℕ) where
         (omega (arith, h), f.fits room (held + 1) (instr.Index 1 ∷ is) (omega (arith, h, more)) (omega (arith, h, more, f.some), fewer room held is g));
   }
 
-  variable_named : (name : List ℕ) (found : Option Entity) → entity_in program.layout.entities unit name ≡ found → IsTrue (is_integer_variable found) → Fits (place_code (number_in program.layout.entities unit name) None None) (1 + 0 + 0)
-  variable_named name None e m = absurd (cc)
-  variable_named name (Some found) e m =
+  alone_named : (name : List ℕ) (found : Option Entity) → entity_in program.layout.entities unit name ≡ found → IsTrue (is_integer_variable found || is_integer_constant found) → Fits (place_code (number_in program.layout.entities unit name) None None) (1 + 0 + 0)
+  alone_named name None e m = absurd (cc)
+  alone_named name (Some found) e m =
       let h : HasNumber program.layout.entities (number_in program.layout.entities unit name) found = found_at (is_named unit name) program.layout.entities found e in
       subst (λ n. Fits (place_code n None None) (1 + 0 + 0)) (sym h.is) (variable_fits h.number (1 + 0 + 0) (omega arith))
 
@@ -180,7 +180,7 @@ module _ (program : Program) (unit : ℕ) where
 
   ref_by : (y : Ref-F SomeExpr SomePart SomeRef) (args : Option (List SomeExpr)) (part : Option SomePart) → IsTrue (meaning_ref program.units program.layout unit (tested_ref (plain_ref (record y { args = args; part = part })))) →
       Fits (code_ref program.layout unit (coded_ref (plain_ref (record y { args = args; part = part })))) (ref_step (needed_ref (plain_ref (record y { args = args; part = part }))))
-  ref_by y None None m = variable_named y.name (entity_in program.layout.entities unit y.name) refl m
+  ref_by y None None m = alone_named y.name (entity_in program.layout.entities unit y.name) refl m
   ref_by y (Some []) None m = absurd (cc)
   ref_by y (Some (x ∷ [])) None m = element_named y.name x (entity_in program.layout.entities unit y.name) refl m
   ref_by y (Some (x ∷ z ∷ others)) None m = absurd (cc)
@@ -392,8 +392,8 @@ module _ (program : Program) (unit : ℕ) where
   own_room number (stmt.Assign target v) is runs m =
       subst (λ n. HoldsAtMost (n + 1) (assign_code program.layout unit target v ++ is) 0) (sym (ap need_of (sym (rolls-Assign target v)) ∙ fold-roll-Stmt ℕ stmt_step (stmt_layer.Assign target v)))
       (assign_room target v is
-      (first_of_two (ref_has_meaning program.units program.layout unit target) (expr_has_meaning program.units program.layout unit v) m)
-      (second_of_two (ref_has_meaning program.units program.layout unit target) (expr_has_meaning program.units program.layout unit v) m))
+      (first_of_two (ref_has_meaning program.units program.layout unit target) (is_kept (entity_in program.layout.entities unit (out-Ref target).name)) (first_of_two (target_has_meaning program.units program.layout unit target) (expr_has_meaning program.units program.layout unit v) m))
+      (second_of_two (target_has_meaning program.units program.layout unit target) (expr_has_meaning program.units program.layout unit v) m))
   own_room number (stmt.Do terminal control) is runs m =
       subst (λ n. HoldsAtMost (n + 1) (do_code program.layout unit control (number_in program.layout.entities unit control.variable) (loop_with_range_from program.loops (number + 1)) ++ is) 0) (sym (ap need_of (sym (rolls-Do terminal control)) ∙ fold-roll-Stmt ℕ stmt_step (stmt_layer.Do terminal control)))
       (do_room control (number_in program.layout.entities unit control.variable) (loop_with_range_from program.loops (number + 1)) is m)

@@ -32,7 +32,7 @@ fn extent_by(span: Option<Span>) -> u128
 }
 
 /// How many storage units an entity of such dimensions takes.
-fn storage_units_by(bounds: &[Bound]) -> u128
+pub fn storage_units_by(bounds: &[Bound]) -> u128
     ensures { result ≡ storage_units_by bounds.now }
 {
     match bounds {
@@ -64,7 +64,7 @@ pub fn units_at(entities: &Entities, number: usize) -> u128
 }
 
 /// Storage units after others, where they are no more than there may be.
-fn more_units(before: u32, units: u128) -> Option<u32>
+pub fn more_units(before: u32, units: u128) -> Option<u32>
     requires { before ≤ most_storage_units }
     ensures { result ≡ spec.limited (before + units) }
 {

@@ -1,0 +1,4 @@
+pub mod Files
+pub mod PastLemmas
+pub mod Placed
+pub mod UnitTurns
