@@ -4,7 +4,7 @@ use Rattle.std.specs.Prelude.{MatchOption, Contains}
 use Rattle.std.proofs.lemmas.List.Elements.{All-cons}
 use Rattle.f77_ast.proofs.Refusals.{first_is_earliest}
 use Rattle.f77_ast.specs.Limits.{most_storage_units}
-use Rattle.f77_ast.specs.Refusal.{NoneIsEarlier, first_of, when}
+use Rattle.f77_ast.specs.Refusal.{NoneIsEarlier, when}
 use Rattle.f77_ast.specs.declared.program.Entity.{Entity}
 use Rattle.f77_ast.specs.declared.program.Listed.{Listed}
 use Rattle.f77_ast.specs.declared.program.Unit.{Unit as ProgramUnit}

@@ -1,5 +1,5 @@
 -- The first entity past the limit on storage.
-use Rattle.std.proofs.Common.{◌≡◌, ℕ, zero, suc, ◌+◌, Bool, true, false, cond, List, [], ◌∷◌, drop, length, ◌≤◌, nat_le, Option, None, Some, slice_get, refl, sym, ap, ◌∙◌, arith}
+use Rattle.std.proofs.Common.{◌≡◌, ℕ, zero, suc, ◌+◌, Bool, true, false, cond, List, [], ◌∷◌, drop, nat_le, None, Some, slice_get, refl, sym, ap}
 use Rattle.f77_ast.specs.Limits.{most_storage_units}
 use Rattle.f77_ast.specs.declared.program.Entity.{Entity}
 use Rattle.f77_built.specs.Built.{first_past}

@@ -1,6 +1,6 @@
 -- Which files are built so far: those of whose statements all are, and whose entities take no more storage than there may be.
 -- All others are refused by code 21, until their statements have a meaning, and storage has codes of its own.
-use Rattle.std.specs.Prelude.{ℕ, zero, suc, ◌+◌, Bool, false, not, ◌&&◌, nat_le, List, [], ◌∷◌, ◌++◌, Option, None, Some, find, if◌then◌else◌}
+use Rattle.std.specs.Prelude.{ℕ, suc, ◌+◌, Bool, not, ◌&&◌, nat_le, List, [], ◌∷◌, ◌++◌, Option, None, Some, find, if◌then◌else◌}
 use Rattle.std.specs.List.{list_any}
 use Rattle.f77_ast.specs.Limits.{most_storage_units}
 use Rattle.f77_ast.specs.Refusal.{first_of, refusal_by}

@@ -23,12 +23,7 @@ fn is_built(units: &[Unit], entities: &Entities, unit: u32, stmt: &Stmt) -> bool
 }
 
 /// The first statement of a unit that isn't built, by line.
-fn unbuilt_in(
-    units: &[Unit],
-    entities: &Entities,
-    unit: u32,
-    listing: &[Listed],
-) -> Option<Refusal>
+fn unbuilt_in(units: &[Unit], entities: &Entities, unit: u32, listing: &[Listed]) -> Option<Refusal>
     ensures { result ≡ first_of (spec.unbuilt_in units.now entities.now unit listing.now) }
 {
     let mut first = None;

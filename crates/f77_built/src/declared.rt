@@ -5,9 +5,7 @@ ghost use Rattle.f77_built.specs.Declared as spec;
 
 use crate::entities::{names_constant, takes_storage};
 use f77_ast::entities::Entities;
-use f77_ast::specification::{
-    Declarator, ImplicitRule, NamedConstant, TypeSpec, TypedDeclarator,
-};
+use f77_ast::specification::{Declarator, ImplicitRule, NamedConstant, TypeSpec, TypedDeclarator};
 use f77_ast::stmt::Stmt;
 
 /// Whether a type is INTEGER.
@@ -52,7 +50,9 @@ fn typed_is_built(entities: &Entities, unit: u32, typed: &TypedDeclarator) -> bo
 fn all_typed_are_built(entities: &Entities, unit: u32, names: &[TypedDeclarator]) -> bool
     ensures { result ≡ list_all (spec.typed_is_built entities.now unit) names.now }
 {
-    names.iter().all(|typed| typed_is_built(entities, unit, typed))
+    names
+        .iter()
+        .all(|typed| typed_is_built(entities, unit, typed))
 }
 
 /// Whether a constant of PARAMETER is one of INTEGER.

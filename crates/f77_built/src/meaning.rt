@@ -7,9 +7,7 @@ ghost use Rattle.f77_layout.specs.Layout.{layout_of};
 ghost use Rattle.f77_structure.specs.Arrays.{array_named, array_of_ref};
 ghost use Rattle.f77_structure.specs.HasMeaning as spec;
 
-use crate::entities::{
-    names_kept, names_number, names_variable, names_vector, names_whole_vector,
-};
+use crate::entities::{names_kept, names_number, names_variable, names_vector, names_whole_vector};
 use f77_ast::entities::Entities;
 use f77_ast::expr::{Expr, Ref};
 use f77_ast::name::Name;

@@ -1,7 +1,7 @@
 use Rattle.std.proofs.Common.{not, ap}
 use Rattle.f77_ast.specs.declared.rule.Rule.TheVariants.{LeftOut}
 use Rattle.f77_built.specs.Built.{is_unbuilt}
-use Rattle.f77_uses.proofs.Turns.{ended, first_from, turned}
+use Rattle.f77_uses.proofs.Turns.{first_from, turned}
 use Rattle.f77_built.proofs.built.unbuilt_in.Goals as goal
 
 pub loop-listed-preserved : goal.loop-listed-preserved
