@@ -1,7 +1,6 @@
 //! The program of units.
 ghost use Rattle.std.specs.Prelude.{◌≡◌, ◌+◌, ◌<◌, ◌^◌, length, None, Ok, Err, IfOk, IsErrOf};
 ghost use Rattle.f77_ast.specs.declared.refusal.Refusal.{Refusal};
-ghost use Rattle.f77_built.specs.Built.{unbuilt_of};
 ghost use Rattle.f77_front.specs.Front.{later_refusal, program_with, program_of};
 ghost use Rattle.f77_structure.specs.Units.{statement_count};
 
@@ -35,7 +34,7 @@ fn later_refusal(
 fn program_with(alloc: Global, units: Units, entities: Entities) -> Result<Program, NoMemory>
     requires few_units { length units < 2 ^ 32 }
     requires few_statements { statement_count units + 1 < 2 ^ 32 }
-    requires built { unbuilt_of units entities ≡ None }
+    requires built { later_refusal units entities ≡ None }
     ensures { IfOk result (λ program. program ≡ program_with units entities) }
 {
     let loops = loops(alloc, &units)?;
