@@ -1,6 +1,6 @@
 -- Expressions that have a meaning give numbers.
-use Rattle.std.proofs.Common.{◌≡◌, ◌||◌, ℕ, ℤ, Bool, true, false, List, [], ◌∷◌, Option, None, Some, IsTrue, refl, sym, ap, subst, ◌∙◌}
-use Rattle.std.specs.Prelude.{◌&&◌}
+use Rattle.std.proofs.Common.{◌≡◌, ℕ, ℤ, Bool, true, false, List, [], ◌∷◌, Option, None, Some, IsTrue, refl, sym, ap, subst, ◌∙◌}
+use Rattle.std.specs.Prelude.{◌&&◌, ◌||◌}
 use Rattle.std.specs.Option.{is_some}
 use Rattle.hyb_base.specs.Wrap.{power_of, quotient_of}
 use Rattle.f77_ast.specs.Entity.{entity_in}
@@ -121,29 +121,9 @@ by_address : (s t : Setting) (e : Entity) (o : Option ℕ) (rest : List ℤ) →
 by_address s t e (Some address) rest h = place_gives t address _ e.len e.kind rest h
 by_address s t e None rest h = refl
 
--- what is a constant is a number
-abbrev NumberIfConstant : Place → Type 0
-NumberIfConstant (Stored address) = Unit {0}
-NumberIfConstant (Dummy k) = Unit {0}
-NumberIfConstant (Constant x) = IsTrue (is_some (constant_number (Constant x)))
-
-abbrev IsIntegerHere : Option Entity → Type 0
-IsIntegerHere None = ⊥
-IsIntegerHere (Some e) = IsTrue (is_integer_kind e.kind) × NumberIfConstant e.place
-
-constant_gives : (s t : Setting) (e : Entity) (x : Expr-F Expr Part Ref) (answers : List ℤ) (args : Option (List Term)) → IsTrue (is_some (literal_number x)) → and_then (and_then (constant s e (literal_layer x) args answers) (value_at t)) as_integer ≡ and_then (constant s e (literal_layer x) args answers) (value_at t)
-constant_gives s t e (layer.Int n) answers None h = refl
-constant_gives s t e (layer.Int n) answers (Some others) h = refl
-constant_gives s t e (layer.Truth b) answers args h = absurd (cc)
-constant_gives s t e (layer.Chars text) answers args h = absurd (cc)
-constant_gives s t e (layer.Ref r) answers args h = absurd (cc)
-constant_gives s t e (layer.Unary o x) answers args h = absurd (cc)
-constant_gives s t e (layer.Binary o x y) answers args h = absurd (cc)
-constant_gives s t e (layer.Paren x) answers args h = absurd (cc)
-
-located_integer : (s : Setting) (found : Option Entity) (args : Option (List Term)) → IsIntegerHere found → StandsForInteger (located s found args)
-located_integer s None args h = absurd h
-located_integer s (Some e) args (h, number) = record { same = λ t answers. by t e.place number answers args }
+-- an INTEGER in storage
+stored_integer : (s : Setting) (e : Entity) (args : Option (List Term)) → IsTrue (is_integer_kind e.kind) → IsTrue (is_stored e.place) → StandsForInteger (located s (Some e) args)
+stored_integer s e args h kept = record { same = λ t answers. by t e.place kept answers args }
   where
     element : (t : Setting) (d : Demand Value) → and_then (and_then (and_then d (λ x rest. place_by s e (address_of_element e (number_of x)) rest)) (value_at t)) as_integer ≡ and_then (and_then d (λ x rest. place_by s e (address_of_element e (number_of x)) rest)) (value_at t)
     element t (gives x rest) = by_address s t e (address_of_element e (number_of x)) rest h
@@ -157,46 +137,45 @@ located_integer s (Some e) args (h, number) = record { same = λ t answers. by t
     stored_gives t answers (Some (x ∷ [])) = element t (x.value answers)
     stored_gives t answers (Some (x ∷ y ∷ others)) = refl
 
-    by : (t : Setting) (at : Place) → NumberIfConstant at → (answers : List ℤ) (args : Option (List Term)) → and_then (and_then (located_by s e at args answers) (value_at t)) as_integer ≡ and_then (located_by s e at args answers) (value_at t)
-    by t (Stored address) n answers args = stored_gives t answers args
-    by t (Dummy k) n answers args = refl
-    by t (Constant x) n answers args = constant_gives s t e (out-Expr x) answers args n
+    by : (t : Setting) (at : Place) → IsTrue (is_stored at) → (answers : List ℤ) (args : Option (List Term)) → and_then (and_then (located_by s e at args answers) (value_at t)) as_integer ≡ and_then (located_by s e at args answers) (value_at t)
+    by t (Stored address) k answers args = stored_gives t answers args
+    by t (Dummy k) there answers args = absurd (cc)
+    by t (Constant literal) there answers args = absurd (cc)
 
--- what is stored is no constant
-stored_number : (at : Place) → is_stored at ≡ true → NumberIfConstant at
-stored_number (Stored address) h = tt
-stored_number (Dummy k) h = tt
-stored_number (Constant x) h = absurd (cc)
+-- a constant that is a number
+constant_integer : (s : Setting) (e : Entity) → IsTrue (is_some (constant_number e.place)) → StandsForInteger (located s (Some e) None)
+constant_integer s e h = record { same = λ t answers. by t e.place h answers }
+  where
+    by_layer : (t : Setting) (z : Expr-F Expr Part Ref) → IsTrue (is_some (literal_number z)) → (answers : List ℤ) → and_then (and_then (constant s e (literal_layer z) None answers) (value_at t)) as_integer ≡ and_then (constant s e (literal_layer z) None answers) (value_at t)
+    by_layer t (layer.Int number) h answers = refl
+    by_layer t (layer.Truth holds) h answers = absurd (cc)
+    by_layer t (layer.Chars text) h answers = absurd (cc)
+    by_layer t (layer.Ref r) h answers = absurd (cc)
+    by_layer t (layer.Unary o x) h answers = absurd (cc)
+    by_layer t (layer.Binary o x y) h answers = absurd (cc)
+    by_layer t (layer.Paren x) h answers = absurd (cc)
 
-number_here : (at : Place) → IsTrue (is_some (constant_number at)) → NumberIfConstant at
-number_here (Stored address) h = tt
-number_here (Dummy k) h = tt
-number_here (Constant x) h = h
+    by : (t : Setting) (at : Place) → IsTrue (is_some (constant_number at)) → (answers : List ℤ) → and_then (and_then (located_by s e at None answers) (value_at t)) as_integer ≡ and_then (located_by s e at None answers) (value_at t)
+    by t (Stored address) h answers = absurd (cc)
+    by t (Dummy k) h answers = absurd (cc)
+    by t (Constant literal) h answers = by_layer t (out-Expr literal) h answers
 
--- a name without subscripts that has a meaning is that of a variable or a constant
-alone_named : (e : Entity) (v : Bool) → is_integer_variable (Some e) ≡ v → IsTrue (v || is_integer_constant (Some e)) → IsIntegerHere (Some e)
-alone_named e true same h =
-    let both = second_of_two (is_integer_kind e.kind) (is_stored e.place && is_scalar e.bounds) same in
-    (first_of_two (is_integer_kind e.kind) (is_stored e.place && is_scalar e.bounds) same, stored_number e.place (first_of_two (is_stored e.place) (is_scalar e.bounds) both))
-alone_named e false same h =
-    let both = second_of_two (is_integer_kind e.kind) (is_some (constant_number e.place) && is_scalar e.bounds) h in
-    (first_of_two (is_integer_kind e.kind) (is_some (constant_number e.place) && is_scalar e.bounds) h, number_here e.place (first_of_two (is_some (constant_number e.place)) (is_scalar e.bounds) both))
+-- a variable or a constant, and an element
+named_integer : (s : Setting) (found : Option Entity) → IsTrue (names_integer found None) → StandsForInteger (located s found None)
+named_integer s None m = absurd (cc)
+named_integer s (Some e) m = by (is_integer_variable (Some e)) refl m
+  where
+    by : (b : Bool) → is_integer_variable (Some e) ≡ b → IsTrue (b || is_integer_constant (Some e)) → StandsForInteger (located s (Some e) None)
+    by true h m =
+        stored_integer s e None (first_of_two (is_integer_kind e.kind) (is_stored e.place && is_scalar e.bounds) h)
+        (first_of_two (is_stored e.place) (is_scalar e.bounds) (second_of_two (is_integer_kind e.kind) (is_stored e.place && is_scalar e.bounds) h))
+    by false h m = constant_integer s e (first_of_two (is_some (constant_number e.place)) (is_scalar e.bounds) (second_of_two (is_integer_kind e.kind) (is_some (constant_number e.place) && is_scalar e.bounds) m))
 
-vector_named : (e : Entity) → IsTrue (is_integer_vector (Some e)) → IsIntegerHere (Some e)
-vector_named e h =
-    let both = second_of_two (is_integer_kind e.kind) (is_stored e.place && is_vector e.bounds) h in
-    (first_of_two (is_integer_kind e.kind) (is_stored e.place && is_vector e.bounds) h, stored_number e.place (first_of_two (is_stored e.place) (is_vector e.bounds) both))
-
--- what has a meaning is the name of an INTEGER
-integer_named : (found : Option Entity) (args : Option (List Bool)) → IsTrue (names_integer found args) → IsIntegerHere found
-integer_named None None h = absurd (cc)
-integer_named None (Some []) h = absurd (cc)
-integer_named None (Some (x ∷ [])) h = absurd (cc)
-integer_named None (Some (x ∷ y ∷ others)) h = absurd (cc)
-integer_named (Some e) None h = alone_named e (is_integer_variable (Some e)) refl h
-integer_named (Some e) (Some []) h = absurd (cc)
-integer_named (Some e) (Some (x ∷ [])) h = vector_named e (first_of_two (is_integer_vector (Some e)) x h)
-integer_named (Some e) (Some (x ∷ y ∷ others)) h = absurd (cc)
+element_integer : (s : Setting) (found : Option Entity) (args : Option (List Term)) → IsTrue (is_integer_vector found) → StandsForInteger (located s found args)
+element_integer s None args m = absurd (cc)
+element_integer s (Some e) args m =
+    stored_integer s e args (first_of_two (is_integer_kind e.kind) (is_stored e.place && is_vector e.bounds) m)
+    (first_of_two (is_stored e.place) (is_vector e.bounds) (second_of_two (is_integer_kind e.kind) (is_stored e.place && is_vector e.bounds) m))
 
 module _ (s : Setting) where
   abbrev ExprGives : Expr → Type 0
@@ -262,11 +241,11 @@ module _ (s : Setting) where
   expr_layer (layer.Paren x) = of_layer (layer.Paren x.0) (λ m. x.1 m)
 
   ref_by : (y : Ref-F SomeExpr SomePart SomeRef) (args : Option (List SomeExpr)) (part : Option SomePart) → IsTrue (meaning_ref s.program.units s.program.layout s.unit (tested_ref (plain_ref (record y { args = args; part = part })))) → StandsForInteger (ref_step s (termed_ref (plain_ref (record y { args = args; part = part }))))
-  ref_by y None None m = located_integer s (entity_in s.program.layout.entities s.unit y.name) None (integer_named (entity_in s.program.layout.entities s.unit y.name) None m)
+  ref_by y None None m = named_integer s (entity_in s.program.layout.entities s.unit y.name) m
   ref_by y (Some []) None m = absurd (cc)
   ref_by y (Some (x ∷ [])) None m =
-      located_integer s (entity_in s.program.layout.entities s.unit y.name) (Some (term_of s x.0 ∷ []))
-      (integer_named (entity_in s.program.layout.entities s.unit y.name) (Some (expr_has_meaning s.program.units s.program.layout s.unit x.0 ∷ [])) m)
+      element_integer s (entity_in s.program.layout.entities s.unit y.name) (Some (term_of s x.0 ∷ []))
+      (first_of_two (is_integer_vector (entity_in s.program.layout.entities s.unit y.name)) (expr_has_meaning s.program.units s.program.layout s.unit x.0) m)
   ref_by y (Some (x ∷ z ∷ others)) None m = absurd (cc)
   ref_by y args (Some part) m = absurd (cc)
 

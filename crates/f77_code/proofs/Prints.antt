@@ -25,7 +25,7 @@ use Rattle.f77_meaning.specs.Perform.{asked, elements_shown, performed, shown, w
 use Rattle.f77_meaning.specs.Print.{Printed, Printing, asks, enters, whole, stops, after_array_or_value, after_elements, after_items, after_value, element_after, next_cell, next_item, text_of, with_text, within_limit}
 use Rattle.f77_meaning.specs.Process.{Frame, with_done}
 use Rattle.f77_meaning.specs.Step.{Move, print_move}
-use Rattle.f77_code.specs.Exprs.{code_part, code_ref, code_step, expr_code, place_code, ref_code}
+use Rattle.f77_code.specs.Exprs.{expr_code, place_code, ref_code, ref_layer_code}
 use Rattle.f77_code.specs.Statements.{items_code, layer_place, plain_code}
 use Rattle.f77_code.proofs.Entities.{HasNumber, found_at}
 use Rattle.f77_code.proofs.Expressions.{entity_left, expr_leaves, first_of_two, second_of_two}
@@ -56,11 +56,8 @@ module _ (program : Program) (unit : ℕ) where
   abbrev arrays_of : Expr-F Expr Part Ref → Expr-F (Option Entity) (Unit {0}) (Option Entity)
   arrays_of = map-Expr Expr Part Ref (Option Entity) (Unit {0}) (Option Entity) (array_named program.layout unit) (fold-Part (Option Entity) (Unit {0}) (Option Entity) array_step array_part (array_ref program.layout unit)) (array_of_ref program.layout unit)
 
-  abbrev codes : Ref-F Expr Part Ref → Ref-F (List Instr) (Unit {0}) (List Instr)
-  codes = map-Ref Expr Part Ref (List Instr) (Unit {0}) (List Instr) (expr_code program.layout unit) (fold-Part (List Instr) (Unit {0}) (List Instr) code_step code_part (code_ref program.layout unit)) (ref_code program.layout unit)
-
   ref_by : (z : Ref-F Expr Part Ref) (args : Option (List Expr)) (part : Option Part) (array : Entity) → array_ref program.layout unit (arrays (record z { args = args; part = part })) ≡ Some array →
-      IsPlaced program.layout.entities (code_ref program.layout unit (codes (record z { args = args; part = part }))) array
+      IsPlaced program.layout.entities (ref_layer_code program.layout unit (record z { args = args; part = part })) array
   ref_by z None None array e =
       let h : HasNumber program.layout.entities (number_in program.layout.entities unit z.name) array = found_at (is_named unit z.name) program.layout.entities array (if_array_same (entity_in program.layout.entities unit z.name) array e) in
       record { number = h.number; is = ap (λ n. place_code n None None) h.is; stands = h.stands }
@@ -70,9 +67,7 @@ module _ (program : Program) (unit : ℕ) where
   ref_placed : (r : Ref) (array : Entity) → array_of_ref program.layout unit r ≡ Some array → IsPlaced program.layout.entities (ref_code program.layout unit r) array
   ref_placed r array e =
       let z : Ref-F Expr Part Ref = out-Ref r in
-      subst (λ x. IsPlaced program.layout.entities (ref_code program.layout unit x) array) (roll-out-Ref r)
-      (subst (λ c. IsPlaced program.layout.entities c array) (sym (fold-roll-Ref (List Instr) (Unit {0}) (List Instr) code_step code_part (code_ref program.layout unit) z))
-      (ref_by z z.args z.part array (sym (fold-roll-Ref (Option Entity) (Unit {0}) (Option Entity) array_step array_part (array_ref program.layout unit) z) ∙ ap (array_of_ref program.layout unit) (roll-out-Ref r) ∙ e)))
+      ref_by z z.args z.part array (sym (fold-roll-Ref (Option Entity) (Unit {0}) (Option Entity) array_step array_part (array_ref program.layout unit) z) ∙ ap (array_of_ref program.layout unit) (roll-out-Ref r) ∙ e)
 
   layer_placed : (z : Expr-F Expr Part Ref) (array : Entity) → array_step (arrays_of z) ≡ Some array → IsPlaced program.layout.entities (layer_place program.layout unit z) array
   layer_placed (layer.Int number) array e = absurd (cc)

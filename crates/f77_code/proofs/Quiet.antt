@@ -1,24 +1,24 @@
 -- No instruction of an expression ends an item or an iteration.
 use Rattle.std.proofs.Common.{◌≡◌, ℕ, zero, suc, ◌+◌, ◌≤◌, ◌∷◌, ◌++◌, Bool, true, false, cond, List, [], length, drop, Option, None, Some, IsTrue, refl, sym, ap, subst, ◌∙◌, append_assoc, arith}
-use Rattle.std.specs.Prelude.{◌&&◌, not}
+use Rattle.std.specs.Prelude.{◌&&◌, map, not}
 use Rattle.std.specs.List.{list_all, prefix_len}
 use Rattle.std.specs.Option.{is_some, option_map, option_or}
 use Rattle.std.proofs.Math.Seq.{drop-append_seam}
 use Rattle.std.proofs.lemmas.List.Folds.{list_all-append}
 use Rattle.hyb_base.specs.declared.ops.RedOp.{RedOp}
 use Rattle.hyb_base.specs.declared.ops.RedOp.TheVariants as red
-use Rattle.f77_ast.specs.Entity.{number_in}
+use Rattle.f77_ast.specs.Entity.{entity_in, number_in}
 use Rattle.f77_ast.specs.declared.code.Instr.{Instr}
 use Rattle.f77_ast.specs.declared.code.Instr.TheVariants as instr
 use Rattle.f77_ast.specs.declared.expr.Expr.{Expr, out-Expr}
-use Rattle.f77_ast.specs.declared.expr.Expr.TheFolds.{fold-Part, fold-roll-Expr, fold-roll-Ref, ind-Expr, ind-Ref, map-Expr, map-Ref}
+use Rattle.f77_ast.specs.declared.expr.Expr.TheFolds.{fold-Part, fold-roll-Expr, fold-roll-Ref, ind-Expr, map-Expr, map-Ref}
 use Rattle.f77_ast.specs.declared.expr.Expr.TheOpen.{Expr-F, Part-F, Ref-F}
 use Rattle.f77_ast.specs.declared.expr.Expr.TheOpen as layer
 use Rattle.f77_ast.specs.declared.expr.Expr.TheViews.{roll-Expr, roll-Ref}
 use Rattle.f77_ast.specs.declared.expr.Op.{Op}
 use Rattle.f77_ast.specs.declared.expr.Op.TheVariants as op_of
 use Rattle.f77_ast.specs.declared.expr.Part.{Part}
-use Rattle.f77_ast.specs.declared.expr.Ref.{Ref}
+use Rattle.f77_ast.specs.declared.expr.Ref.{Ref, out-Ref}
 use Rattle.f77_ast.specs.declared.program.Layout.{Layout}
 use Rattle.f77_ast.specs.declared.program.Loop.{Loop}
 use Rattle.f77_ast.specs.declared.stmt.Item.{Item}
@@ -32,7 +32,7 @@ use Rattle.f77_structure.specs.Loops.{loop_with_range_from}
 use Rattle.f77_meaning.specs.Assign.{Operation, exchanged, is_v, operation_of, operators_at_left, stands_in_product, stands_in_sum}
 use Rattle.f77_meaning.specs.IsCodeOf.{after_item_end, after_item_ends, ends_item, ends_iteration, from_iteration_end}
 use Rattle.f77_code.specs.Accumulations.{Joining, chain_code, chain_code_by, chain_code_within, first_code, joining_by, joining_code, last_code, last_code_with}
-use Rattle.f77_code.specs.Exprs.{code_part, code_ref, code_step, expr_code, place_code, ref_code}
+use Rattle.f77_code.specs.Exprs.{code_part, code_ref, code_step, constant_named, expr_code, literal_layer_code, place_code, read_code, ref_code, value_code}
 use Rattle.f77_code.specs.Statements.{assign_code, assigned_code, do_code, increment_code, items_code, layer_place, own_code, parameters_code, plain_code}
 use Rattle.f77_code.proofs.Expressions.{first_of_two, second_of_two}
 
@@ -119,7 +119,7 @@ module _ (layout : Layout) (unit : ℕ) where
   PartQuiet part = Unit {0}
 
   abbrev RefQuiet : Ref → Type 0
-  RefQuiet r = Quiet (ref_code layout unit r)
+  RefQuiet r = Quiet (value_code layout unit r)
 
   abbrev SomeExpr : Type 0
   SomeExpr = (e : Expr) × ExprQuiet e
@@ -131,10 +131,10 @@ module _ (layout : Layout) (unit : ℕ) where
   SomeRef = (r : Ref) × RefQuiet r
 
   abbrev coded : Expr-F Expr Part Ref → Expr-F (List Instr) (Unit {0}) (List Instr)
-  coded = map-Expr Expr Part Ref (List Instr) (Unit {0}) (List Instr) (expr_code layout unit) (fold-Part (List Instr) (Unit {0}) (List Instr) code_step code_part (code_ref layout unit)) (ref_code layout unit)
+  coded = map-Expr Expr Part Ref (List Instr) (Unit {0}) (List Instr) (expr_code layout unit) (fold-Part (List Instr) (Unit {0}) (List Instr) code_step code_part (code_ref layout unit)) (value_code layout unit)
 
   abbrev coded_ref : Ref-F Expr Part Ref → Ref-F (List Instr) (Unit {0}) (List Instr)
-  coded_ref = map-Ref Expr Part Ref (List Instr) (Unit {0}) (List Instr) (expr_code layout unit) (fold-Part (List Instr) (Unit {0}) (List Instr) code_step code_part (code_ref layout unit)) (ref_code layout unit)
+  coded_ref = map-Ref Expr Part Ref (List Instr) (Unit {0}) (List Instr) (expr_code layout unit) (fold-Part (List Instr) (Unit {0}) (List Instr) code_step code_part (code_ref layout unit)) (value_code layout unit)
 
   of_layer : (z : Expr-F Expr Part Ref) → Quiet (code_step (coded z)) → ExprQuiet (roll-Expr z)
   of_layer z h = subst (λ code. Quiet code) (sym (fold-roll-Expr (List Instr) (Unit {0}) (List Instr) code_step code_part (code_ref layout unit) z)) h
@@ -152,7 +152,7 @@ module _ (layout : Layout) (unit : ℕ) where
   expr_layer (layer.Int number) = of_layer (layer.Int number) (record { all = refl })
   expr_layer (layer.Truth holds) = of_layer (layer.Truth holds) (record { all = refl })
   expr_layer (layer.Chars text) = of_layer (layer.Chars text) (record { all = refl })
-  expr_layer (layer.Ref r) = of_layer (layer.Ref r.0) (joined (ref_code layout unit r.0) (instr.Load ∷ []) r.1 (record { all = refl }))
+  expr_layer (layer.Ref r) = of_layer (layer.Ref r.0) r.1
   expr_layer (layer.Unary op x) = of_layer (layer.Unary op x.0) (joined (expr_code layout unit x.0) (instr.Unary op ∷ []) x.1 (record { all = refl }))
   expr_layer (layer.Binary op x y) =
       of_layer (layer.Binary op x.0 y.0)
@@ -166,17 +166,37 @@ module _ (layout : Layout) (unit : ℕ) where
   entity_first : (n : ℕ) (code : List Instr) → Quiet code → Quiet (instr.Entity n ∷ code)
   entity_first n code h = record { all = h.all }
 
+  element_quiet : (n : ℕ) (code : List Instr) → Quiet code → Quiet (instr.Entity n ∷ code ++ instr.Index 1 ∷ [])
+  element_quiet n code h = joined (instr.Entity n ∷ code) (instr.Index 1 ∷ []) (entity_first n code h) (record { all = refl })
+
+  -- the value of a reference, by the code of its place
+  read_quiet : (o : Option Expr) (place : List Instr) → Quiet place → Quiet (read_code o place)
+  read_quiet None place h = joined place (instr.Load ∷ []) h (record { all = refl })
+  read_quiet (Some literal) place h = by (out-Expr literal)
+    where
+      by : (z : Expr-F Expr Part Ref) → Quiet (literal_layer_code z)
+      by (layer.Int number) = record { all = refl }
+      by (layer.Truth holds) = record { all = refl }
+      by (layer.Chars text) = none
+      by (layer.Ref r) = none
+      by (layer.Unary op x) = none
+      by (layer.Binary op x y) = none
+      by (layer.Paren x) = none
+
   ref_by : (y : Ref-F SomeExpr SomePart SomeRef) (number : Option ℕ) (args : Option (List SomeExpr)) (part : Option SomePart) → Quiet (place_code number (coded_ref (plain_ref (record y { args = args; part = part }))).args (coded_ref (plain_ref (record y { args = args; part = part }))).part)
   ref_by y None args part = none
   ref_by y (Some n) None None = record { all = refl }
   ref_by y (Some n) None (Some part) = none
   ref_by y (Some n) (Some []) part = none
-  ref_by y (Some n) (Some (x ∷ [])) None = joined (instr.Entity n ∷ expr_code layout unit x.0) (instr.Index 1 ∷ []) (entity_first n (expr_code layout unit x.0) x.1) (record { all = refl })
+  ref_by y (Some n) (Some (x ∷ [])) None = element_quiet n (expr_code layout unit x.0) x.1
   ref_by y (Some n) (Some (x ∷ [])) (Some part) = none
   ref_by y (Some n) (Some (x ∷ z ∷ others)) part = none
 
   ref_layer : (y : Ref-F SomeExpr SomePart SomeRef) → RefQuiet (roll-Ref (plain_ref y))
-  ref_layer y = of_ref_layer (plain_ref y) (ref_by y (number_in layout.entities unit y.name) y.args y.part)
+  ref_layer y =
+      let z : Ref-F (List Instr) (Unit {0}) (List Instr) = coded_ref (plain_ref y) in
+      of_ref_layer (plain_ref y)
+      (read_quiet (constant_named (entity_in layout.entities unit z.name) z.args z.part) (place_code (number_in layout.entities unit z.name) z.args z.part) (ref_by y (number_in layout.entities unit y.name) y.args y.part))
 
   pub expr_quiet : (e : Expr) → ExprQuiet e
   expr_quiet = ind-Expr ExprQuiet PartQuiet RefQuiet
@@ -184,11 +204,17 @@ module _ (layout : Layout) (unit : ℕ) where
       (λ x y is. tt)
       (λ x y is. subst (λ z. RefQuiet (roll-Ref z)) is (ref_layer y))
 
-  pub ref_quiet : (r : Ref) → RefQuiet r
-  ref_quiet = ind-Ref ExprQuiet PartQuiet RefQuiet
-      (λ x y is. subst (λ z. ExprQuiet (roll-Expr z)) is (expr_layer y))
-      (λ x y is. tt)
-      (λ x y is. subst (λ z. RefQuiet (roll-Ref z)) is (ref_layer y))
+  place_by : (number : Option ℕ) (args : Option (List Expr)) (part : Option Part) → Quiet (place_code number (option_map (map (expr_code layout unit)) args) (option_map (λ x. tt) part))
+  place_by None args part = none
+  place_by (Some n) None None = record { all = refl }
+  place_by (Some n) None (Some part) = none
+  place_by (Some n) (Some []) part = none
+  place_by (Some n) (Some (x ∷ [])) None = element_quiet n (expr_code layout unit x) (expr_quiet x)
+  place_by (Some n) (Some (x ∷ [])) (Some part) = none
+  place_by (Some n) (Some (x ∷ z ∷ others)) part = none
+
+  pub ref_quiet : (r : Ref) → Quiet (ref_code layout unit r)
+  ref_quiet r = place_by (number_in layout.entities unit (out-Ref r).name) (out-Ref r).args (out-Ref r).part
 
   layer_quiet : (z : Expr-F Expr Part Ref) → Quiet (layer_place layout unit z)
   layer_quiet (layer.Int number) = none

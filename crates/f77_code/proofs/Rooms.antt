@@ -10,16 +10,18 @@ use Rattle.f77_ast.specs.Entity.{entity_in, is_named, number_in}
 use Rattle.f77_ast.specs.declared.code.Instr.{Instr}
 use Rattle.f77_ast.specs.declared.code.Instr.TheVariants as instr
 use Rattle.f77_ast.specs.declared.expr.Expr.{Expr, out-Expr, roll-out-Expr}
-use Rattle.f77_ast.specs.declared.expr.Expr.TheFolds.{fold-Part, fold-roll-Expr, fold-roll-Ref, ind-Expr, ind-Ref, map-Expr, map-Ref}
+use Rattle.f77_ast.specs.declared.expr.Expr.TheFolds.{fold-Part, fold-roll-Expr, fold-roll-Ref, ind-Expr, map-Expr, map-Ref}
 use Rattle.f77_ast.specs.declared.expr.Expr.TheOpen.{Expr-F, Part-F, Ref-F}
 use Rattle.f77_ast.specs.declared.expr.Expr.TheOpen as layer
 use Rattle.f77_ast.specs.declared.expr.Expr.TheViews.{roll-Expr, roll-Ref}
 use Rattle.f77_ast.specs.declared.expr.Op.{Op}
 use Rattle.f77_ast.specs.declared.expr.Op.TheVariants as op_of
 use Rattle.f77_ast.specs.declared.expr.Part.{Part}
-use Rattle.f77_ast.specs.declared.expr.Ref.{Ref, out-Ref}
+use Rattle.f77_ast.specs.declared.expr.Ref.{Ref, out-Ref, roll-out-Ref}
 use Rattle.f77_ast.specs.declared.program.Entity.{Entity}
 use Rattle.f77_ast.specs.declared.program.Loop.{Loop}
+use Rattle.f77_ast.specs.declared.program.Place.{Place}
+use Rattle.f77_ast.specs.declared.program.Place.TheVariants.{Stored, Dummy, Constant}
 use Rattle.f77_ast.specs.declared.program.Program.{Program}
 use Rattle.f77_ast.specs.declared.stmt.Item.{Item}
 use Rattle.f77_ast.specs.declared.stmt.Item as item
@@ -33,18 +35,20 @@ use Rattle.f77_ast.specs.declared.stmt.Stmt.TheFolds.{fold-roll-Stmt}
 use Rattle.f77_ast.specs.declared.stmt.Stmt.TheOpen as stmt_layer
 use Rattle.f77_ast.specs.declared.stmt.Stmt.TheVariants.{rolls-Assign, rolls-Do, rolls-Print}
 use Rattle.f77_structure.specs.Arrays.{array_named}
-use Rattle.f77_structure.specs.HasMeaning.{control_has_meaning, expr_has_meaning, increment_has_meaning, is_integer_constant, is_integer_variable, is_integer_vector, is_kept, item_has_meaning, meaning_part, meaning_ref, meaning_step, ref_has_meaning, statement_has_meaning, target_has_meaning}
+use Rattle.f77_structure.specs.HasMeaning.{control_has_meaning, expr_has_meaning, increment_has_meaning, is_integer_constant, is_integer_variable, is_integer_vector, is_kept, item_has_meaning, meaning_part, meaning_ref, meaning_step, names_integer, ref_has_meaning, statement_has_meaning, target_has_meaning}
+use Rattle.f77_structure.specs.Literals.{constant_number}
 use Rattle.f77_structure.specs.Loops.{loop_with_range_from}
 use Rattle.f77_structure.specs.Needs.{control_need, expr_need, expr_step, item_need, item_step, need_of, option_need, part_step, ref_need, ref_step, stmt_step}
 use Rattle.f77_structure.specs.Statements.{is_executable}
-use Rattle.f77_structure.specs.Values.{is_arithmetic, is_sign}
+use Rattle.f77_structure.specs.Storage.{is_scalar, is_stored, literal_number}
+use Rattle.f77_structure.specs.Values.{is_arithmetic, is_integer_kind, is_sign}
 use Rattle.f77_meaning.specs.Assign.{Operation, exchanged, is_v, layer_operation, operation_of, operators_at_left, stands_in_product, stands_in_sum}
 use Rattle.f77_meaning.specs.Height.{HoldsAtMost}
 use Rattle.f77_code.specs.Accumulations.{Joining, chain_code, chain_code_by, chain_code_within, first_code, joining_by, joining_code, last_code, last_code_with}
-use Rattle.f77_code.specs.Exprs.{code_part, code_ref, code_step, expr_code, place_code, ref_code}
+use Rattle.f77_code.specs.Exprs.{code_part, code_ref, code_step, expr_code, literal_at, literal_layer_code, literal_of, place_code, read_code, ref_code, ref_layer_code, value_code}
 use Rattle.f77_code.specs.Statements.{assign_code, assigned_code, do_code, increment_code, items_code, layer_place, own_code, parameters_code, plain_code}
 use Rattle.f77_code.proofs.Entities.{HasNumber, found_at}
-use Rattle.f77_code.proofs.Expressions.{first_of_two, second_of_two}
+use Rattle.f77_code.proofs.Expressions.{first_of_two, no_literal, second_of_two}
 use Rattle.f77_code.proofs.Prints.{IsPlaced, array_placed}
 
 -- code that leaves one operand more, and holds so many more on the way
@@ -91,7 +95,7 @@ module _ (program : Program) (unit : ℕ) where
   PartFits part = Unit {0}
 
   abbrev RefFits : Ref → Type 0
-  RefFits r = IsTrue (ref_has_meaning program.units program.layout unit r) → Fits (ref_code program.layout unit r) (ref_need r)
+  RefFits r = IsTrue (ref_has_meaning program.units program.layout unit r) → Fits (value_code program.layout unit r) (ref_need r)
 
   abbrev SomeExpr : Type 0
   SomeExpr = (e : Expr) × ExprFits e
@@ -103,10 +107,10 @@ module _ (program : Program) (unit : ℕ) where
   SomeRef = (r : Ref) × RefFits r
 
   abbrev coded : Expr-F Expr Part Ref → Expr-F (List Instr) (Unit {0}) (List Instr)
-  coded = map-Expr Expr Part Ref (List Instr) (Unit {0}) (List Instr) (expr_code program.layout unit) (fold-Part (List Instr) (Unit {0}) (List Instr) code_step code_part (code_ref program.layout unit)) (ref_code program.layout unit)
+  coded = map-Expr Expr Part Ref (List Instr) (Unit {0}) (List Instr) (expr_code program.layout unit) (fold-Part (List Instr) (Unit {0}) (List Instr) code_step code_part (code_ref program.layout unit)) (value_code program.layout unit)
 
   abbrev coded_ref : Ref-F Expr Part Ref → Ref-F (List Instr) (Unit {0}) (List Instr)
-  coded_ref = map-Ref Expr Part Ref (List Instr) (Unit {0}) (List Instr) (expr_code program.layout unit) (fold-Part (List Instr) (Unit {0}) (List Instr) code_step code_part (code_ref program.layout unit)) (ref_code program.layout unit)
+  coded_ref = map-Ref Expr Part Ref (List Instr) (Unit {0}) (List Instr) (expr_code program.layout unit) (fold-Part (List Instr) (Unit {0}) (List Instr) code_step code_part (code_ref program.layout unit)) (value_code program.layout unit)
 
   abbrev tested : Expr-F Expr Part Ref → Expr-F Bool (Unit {0}) Bool
   tested = map-Expr Expr Part Ref Bool (Unit {0}) Bool (expr_has_meaning program.units program.layout unit) (fold-Part Bool (Unit {0}) Bool meaning_step meaning_part (meaning_ref program.units program.layout unit)) (ref_has_meaning program.units program.layout unit)
@@ -143,7 +147,7 @@ module _ (program : Program) (unit : ℕ) where
   expr_layer (layer.Int number) = of_layer (layer.Int number) (λ m. record { some = omega arith; fits = λ room held is h g. (omega (arith, h), g) })
   expr_layer (layer.Truth holds) = of_layer (layer.Truth holds) (λ m. absurd (cc))
   expr_layer (layer.Chars text) = of_layer (layer.Chars text) (λ m. absurd (cc))
-  expr_layer (layer.Ref r) = of_layer (layer.Ref r.0) (λ m. load_fits (ref_code program.layout unit r.0) (ref_need r.0) (r.1 m))
+  expr_layer (layer.Ref r) = of_layer (layer.Ref r.0) (λ m. r.1 m)
   expr_layer (layer.Unary op x) = of_layer (layer.Unary op x.0) (λ m. unary_fits op (expr_code program.layout unit x.0) (expr_need x.0) (x.1 (second_of_two (is_sign op) (expr_has_meaning program.units program.layout unit x.0) m)))
   expr_layer (layer.Binary op x y) = of_layer (layer.Binary op x.0 y.0) (λ m.
       let both = second_of_two (is_arithmetic op) (expr_has_meaning program.units program.layout unit x.0 && expr_has_meaning program.units program.layout unit y.0) m in
@@ -151,6 +155,21 @@ module _ (program : Program) (unit : ℕ) where
       (x.1 (first_of_two (expr_has_meaning program.units program.layout unit x.0) (expr_has_meaning program.units program.layout unit y.0) both))
       (y.1 (second_of_two (expr_has_meaning program.units program.layout unit x.0) (expr_has_meaning program.units program.layout unit y.0) both)))
   expr_layer (layer.Paren x) = of_layer (layer.Paren x.0) (λ m. x.1 m)
+
+  -- a constant that is a number
+  constant_fits : (at : Place) (place : List Instr) (need : ℕ) → 1 ≤ need → IsTrue (is_some (constant_number at)) → Fits (read_code (literal_at at) place) need
+  constant_fits (Stored address) place need some h = absurd (cc)
+  constant_fits (Dummy k) place need some h = absurd (cc)
+  constant_fits (Constant literal) place need some h = by (out-Expr literal) h
+    where
+      by : (z : Expr-F Expr Part Ref) → IsTrue (is_some (literal_number z)) → Fits (literal_layer_code z) need
+      by (layer.Int number) h = record { some = some; fits = λ room held is h g. (omega (arith, h, some), g) }
+      by (layer.Truth holds) h = absurd (cc)
+      by (layer.Chars text) h = absurd (cc)
+      by (layer.Ref r) h = absurd (cc)
+      by (layer.Unary op x) h = absurd (cc)
+      by (layer.Binary op x y) h = absurd (cc)
+      by (layer.Paren x) h = absurd (cc)
 
   -- a variable, and an element
   variable_fits : (n need : ℕ) → 1 ≤ need → Fits (instr.Entity n ∷ []) need
@@ -164,9 +183,9 @@ module _ (program : Program) (unit : ℕ) where
         (omega (arith, h), f.fits room (held + 1) (instr.Index 1 ∷ is) (omega (arith, h, more)) (omega (arith, h, more, f.some), fewer room held is g));
   }
 
-  alone_named : (name : List ℕ) (found : Option Entity) → entity_in program.layout.entities unit name ≡ found → IsTrue (is_integer_variable found || is_integer_constant found) → Fits (place_code (number_in program.layout.entities unit name) None None) (1 + 0 + 0)
-  alone_named name None e m = absurd (cc)
-  alone_named name (Some found) e m =
+  variable_named : (name : List ℕ) (found : Option Entity) → entity_in program.layout.entities unit name ≡ found → IsTrue (names_integer found None) → Fits (place_code (number_in program.layout.entities unit name) None None) (1 + 0 + 0)
+  variable_named name None e m = absurd (cc)
+  variable_named name (Some found) e m =
       let h : HasNumber program.layout.entities (number_in program.layout.entities unit name) found = found_at (is_named unit name) program.layout.entities found e in
       subst (λ n. Fits (place_code n None None) (1 + 0 + 0)) (sym h.is) (variable_fits h.number (1 + 0 + 0) (omega arith))
 
@@ -178,11 +197,29 @@ module _ (program : Program) (unit : ℕ) where
       subst (λ n. Fits (place_code n (Some (expr_code program.layout unit x.0 ∷ [])) None) (1 + sum (expr_need x.0 ∷ []) + 0)) (sym h.is)
       (element_fits h.number (expr_need x.0) (1 + sum (expr_need x.0 ∷ []) + 0) (expr_code program.layout unit x.0) (omega arith) (x.1 (second_of_two (is_integer_vector (Some found)) (expr_has_meaning program.units program.layout unit x.0) m)))
 
+  -- the place of a name alone
+  abbrev place_named : List ℕ → List Instr
+  place_named name = place_code (number_in program.layout.entities unit name) None None
+
+  -- a variable or a constant, by its name
+  value_named : (name : List ℕ) (found : Option Entity) → entity_in program.layout.entities unit name ≡ found → IsTrue (names_integer found None) → Fits (read_code (literal_of found) (place_named name)) (1 + 0 + 0)
+  value_named name None e m = absurd (cc)
+  value_named name (Some found) e m = by (is_integer_variable (Some found)) refl m
+    where
+      by : (b : Bool) → is_integer_variable (Some found) ≡ b → IsTrue (b || is_integer_constant (Some found)) → Fits (read_code (literal_at found.place) (place_named name)) (1 + 0 + 0)
+      by true h k =
+          let stored = first_of_two (is_stored found.place) (is_scalar found.bounds) (second_of_two (is_integer_kind found.kind) (is_stored found.place && is_scalar found.bounds) h) in
+          subst (λ l. Fits (read_code l (place_named name)) (1 + 0 + 0)) (sym (no_literal found.place stored)) (load_fits (place_named name) (1 + 0 + 0) (variable_named name (Some found) e m))
+      by false h k =
+          constant_fits found.place (place_named name) (1 + 0 + 0) (omega arith) (first_of_two (is_some (constant_number found.place)) (is_scalar found.bounds) (second_of_two (is_integer_kind found.kind) (is_some (constant_number found.place) && is_scalar found.bounds) k))
+
   ref_by : (y : Ref-F SomeExpr SomePart SomeRef) (args : Option (List SomeExpr)) (part : Option SomePart) → IsTrue (meaning_ref program.units program.layout unit (tested_ref (plain_ref (record y { args = args; part = part })))) →
       Fits (code_ref program.layout unit (coded_ref (plain_ref (record y { args = args; part = part })))) (ref_step (needed_ref (plain_ref (record y { args = args; part = part }))))
-  ref_by y None None m = alone_named y.name (entity_in program.layout.entities unit y.name) refl m
+  ref_by y None None m = value_named y.name (entity_in program.layout.entities unit y.name) refl m
   ref_by y (Some []) None m = absurd (cc)
-  ref_by y (Some (x ∷ [])) None m = element_named y.name x (entity_in program.layout.entities unit y.name) refl m
+  ref_by y (Some (x ∷ [])) None m =
+      load_fits (place_code (number_in program.layout.entities unit y.name) (Some (expr_code program.layout unit x.0 ∷ [])) None) (1 + sum (expr_need x.0 ∷ []) + 0)
+      (element_named y.name x (entity_in program.layout.entities unit y.name) refl m)
   ref_by y (Some (x ∷ z ∷ others)) None m = absurd (cc)
   ref_by y args (Some part) m = absurd (cc)
 
@@ -195,11 +232,21 @@ module _ (program : Program) (unit : ℕ) where
       (λ x y is. tt)
       (λ x y is. subst (λ z. RefFits (roll-Ref z)) is (ref_layer y))
 
-  ref_fits : (r : Ref) → RefFits r
-  ref_fits = ind-Ref ExprFits PartFits RefFits
-      (λ x y is. subst (λ z. ExprFits (roll-Expr z)) is (expr_layer y))
-      (λ x y is. tt)
-      (λ x y is. subst (λ z. RefFits (roll-Ref z)) is (ref_layer y))
+  -- the place of a reference
+  place_by : (z : Ref-F Expr Part Ref) (args : Option (List Expr)) (part : Option Part) → IsTrue (meaning_ref program.units program.layout unit (tested_ref (record z { args = args; part = part }))) →
+      Fits (ref_layer_code program.layout unit (record z { args = args; part = part })) (ref_step (needed_ref (record z { args = args; part = part })))
+  place_by z None None m = variable_named z.name (entity_in program.layout.entities unit z.name) refl m
+  place_by z (Some []) None m = absurd (cc)
+  place_by z (Some (x ∷ [])) None m = element_named z.name (x, expr_fits x) (entity_in program.layout.entities unit z.name) refl m
+  place_by z (Some (x ∷ y ∷ others)) None m = absurd (cc)
+  place_by z args (Some part) m = absurd (cc)
+
+  ref_fits : (r : Ref) → IsTrue (ref_has_meaning program.units program.layout unit r) → Fits (ref_code program.layout unit r) (ref_need r)
+  ref_fits r m =
+      let z : Ref-F Expr Part Ref = out-Ref r in
+      subst (λ n. Fits (ref_code program.layout unit r) n) (sym (fold-roll-Ref ℕ ℕ ℕ expr_step part_step ref_step z) ∙ ap ref_need (roll-out-Ref r))
+      (place_by z z.args z.part
+      (subst (λ b. IsTrue b) (ap (ref_has_meaning program.units program.layout unit) (sym (roll-out-Ref r)) ∙ fold-roll-Ref Bool (Unit {0}) Bool meaning_step meaning_part (meaning_ref program.units program.layout unit) z) m))
 
   first_fits : (op : Op) (right : List Instr) (n : ℕ) → Fits right n → Fits (first_code op right) n
   first_fits op_of.Plus right n f = f
@@ -392,7 +439,8 @@ module _ (program : Program) (unit : ℕ) where
   own_room number (stmt.Assign target v) is runs m =
       subst (λ n. HoldsAtMost (n + 1) (assign_code program.layout unit target v ++ is) 0) (sym (ap need_of (sym (rolls-Assign target v)) ∙ fold-roll-Stmt ℕ stmt_step (stmt_layer.Assign target v)))
       (assign_room target v is
-      (first_of_two (ref_has_meaning program.units program.layout unit target) (is_kept (entity_in program.layout.entities unit (out-Ref target).name)) (first_of_two (target_has_meaning program.units program.layout unit target) (expr_has_meaning program.units program.layout unit v) m))
+      (first_of_two (ref_has_meaning program.units program.layout unit target) (is_kept (entity_in program.layout.entities unit (out-Ref target).name))
+      (first_of_two (target_has_meaning program.units program.layout unit target) (expr_has_meaning program.units program.layout unit v) m))
       (second_of_two (target_has_meaning program.units program.layout unit target) (expr_has_meaning program.units program.layout unit v) m))
   own_room number (stmt.Do terminal control) is runs m =
       subst (λ n. HoldsAtMost (n + 1) (do_code program.layout unit control (number_in program.layout.entities unit control.variable) (loop_with_range_from program.loops (number + 1)) ++ is) 0) (sym (ap need_of (sym (rolls-Do terminal control)) ∙ fold-roll-Stmt ℕ stmt_step (stmt_layer.Do terminal control)))

@@ -12,7 +12,7 @@ use Rattle.f77_ast.specs.declared.program.Entity.{Entity}
 use Rattle.f77_ast.specs.declared.program.Loop.{Loop}
 use Rattle.f77_ast.specs.declared.program.Program.{Program}
 use Rattle.f77_ast.specs.declared.stmt.LoopControl.{LoopControl}
-use Rattle.f77_structure.specs.HasMeaning.{control_has_meaning, expr_has_meaning, increment_has_meaning, is_integer_variable, ref_has_meaning}
+use Rattle.f77_structure.specs.HasMeaning.{control_has_meaning, expr_has_meaning, increment_has_meaning, is_integer_variable, target_has_meaning}
 use Rattle.f77_structure.specs.Values.{integer}
 use Rattle.f77_meaning.specs.Assign.{Accumulation, Written, accumulate_at, accumulation_of, plainly, written_by, written_of}
 use Rattle.f77_meaning.specs.Demand.{Demand, gives, wants, calls, fails, and_then, Located, Setting, demand_of, located, location_of, number_demand, setting_of}
@@ -27,7 +27,7 @@ use Rattle.f77_code.specs.Exprs.{expr_code, ref_code}
 use Rattle.f77_code.specs.Statements.{assign_code, assigned_code, do_code, increment_code, parameters_code}
 use Rattle.f77_code.proofs.Asking.{IsAtPlace, LeavesPlace, asked_same, asked_where, with_place_there}
 use Rattle.f77_code.proofs.Entities.{HasNumber, found_at}
-use Rattle.f77_code.proofs.Expressions.{entity_left, expr_leaves, first_of_two, ref_leaves, second_of_two}
+use Rattle.f77_code.proofs.Expressions.{entity_left, expr_leaves, first_of_two, second_of_two, target_leaves}
 use Rattle.f77_code.proofs.Joins.{IfJoining, LeavesNumber, accumulation_joins, number_leaves}
 use Rattle.f77_code.proofs.Numbers.{twice}
 
@@ -77,10 +77,10 @@ module _ (program : Program) (texts : List (List ℕ)) (below : List Frame) (p :
       ∙ ap (λ op. and_then (a.held rest) (λ f more. accumulate_at s op at.bound f more)) (sym h.op))
 
   -- an assignment
-  pub assign_steps : (target : Ref) (v : Expr) (is : List Instr) → IsTrue (ref_has_meaning program.units program.layout p.frame.unit target) → IsTrue (expr_has_meaning program.units program.layout p.frame.unit v) →
+  pub assign_steps : (target : Ref) (v : Expr) (is : List Instr) → IsTrue (target_has_meaning program.units program.layout p.frame.unit target) → IsTrue (expr_has_meaning program.units program.layout p.frame.unit v) →
       performed program texts below (assign_code program.layout p.frame.unit target v ++ is) [] p.frame.answers p ≡ Some (write_move program p.frame below p.line (written_of s target v p.frame.answers))
   assign_steps target v is t m =
-      let l : LeavesPlace program texts below p (ref_code program.layout p.frame.unit target) (location_of s target) = ref_leaves program texts below p target t in
+      let l : LeavesPlace program texts below p (ref_code program.layout p.frame.unit target) (location_of s target) = target_leaves program texts below p target t in
       let a = accumulation_of s target v in
       let j = joining_code program.layout p.frame.unit target v in
       ap (λ c. performed program texts below c [] p.frame.answers p) (append_assoc (ref_code program.layout p.frame.unit target) (assigned_code program.layout p.frame.unit j v) is)

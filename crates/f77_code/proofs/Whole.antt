@@ -12,9 +12,7 @@ use Rattle.f77_ast.specs.declared.program.Loop.{Loop}
 use Rattle.f77_ast.specs.declared.program.Program.{Program}
 use Rattle.f77_ast.specs.declared.stmt.Stmt.{Stmt}
 use Rattle.f77_ast.specs.declared.stmt.Stmt as stmt
-use Rattle.f77_ast.specs.Entity.{entity_in}
-use Rattle.f77_ast.specs.declared.expr.Ref.{out-Ref}
-use Rattle.f77_structure.specs.HasMeaning.{expr_has_meaning, is_kept, item_has_meaning, ref_has_meaning, statement_has_meaning, target_has_meaning}
+use Rattle.f77_structure.specs.HasMeaning.{expr_has_meaning, item_has_meaning, statement_has_meaning, target_has_meaning}
 use Rattle.f77_structure.specs.Labels.{distance_to}
 use Rattle.f77_structure.specs.Loops.{loop_with_range_from, loops_of}
 use Rattle.f77_structure.specs.Ranges.{IsDo, terminal_at}
@@ -113,7 +111,7 @@ module _ (program : Program) (loops : program.loops ≡ loops_of program.units) 
     own_steps (stmt.Assign target v) is runs m items =
         ap (λ c. performed program [] below c [] frame.answers p) (none_done frame.items (own_code program.loops program.layout frame.unit number (stmt.Assign target v) ++ is) items)
         ∙ assign_steps program [] below p target v is
-        (first_of_two (ref_has_meaning program.units program.layout frame.unit target) (is_kept (entity_in program.layout.entities frame.unit (out-Ref target).name)) (first_of_two (target_has_meaning program.units program.layout frame.unit target) (expr_has_meaning program.units program.layout frame.unit v) m))
+        (first_of_two (target_has_meaning program.units program.layout frame.unit target) (expr_has_meaning program.units program.layout frame.unit v) m)
         (second_of_two (target_has_meaning program.units program.layout frame.unit target) (expr_has_meaning program.units program.layout frame.unit v) m)
     own_steps (stmt.Do terminal control) is runs m items =
         ap (λ c. performed program [] below c [] frame.answers p) (none_done frame.items (own_code program.loops program.layout frame.unit number (stmt.Do terminal control) ++ is) items)
