@@ -57,10 +57,10 @@ def nested(n):
     return lines + ["10|CONTINUE", "END"]
 
 
-def long_statement(names):
-    """A statement of names."""
-    text = "M=" + "+".join(f"I{k}" for k in range(names))
-    return [folded(text[:1320].rsplit("+", 1)[0] if len(text) > 1320 else text), "END"]
+def long_statement(n):
+    """A statement with as many names of two characters."""
+    short = [letter + digit for digit in "0123456789ABCDEFGHIJKLMNOPQRSTUVWXYZ" for letter in "IJKLMN"]
+    return [folded("M=" + "+".join(short[k % len(short)] for k in range(n))), "END"]
 
 
 def units(n):
@@ -73,11 +73,11 @@ def units(n):
 
 CASES = [
     ("names, each assigned", many_names, 9_998),
-    ("names in declarations", names_in_lists, 9_990),
+    ("names in declarations", names_in_lists, 10_000),
     ("constants, each naming the next", lambda n: constants(n, True), 9_000),
     ("constants, each naming the one before", lambda n: constants(n, False), 9_000),
-    ("nested DOs around assignments", nested, 4_998),
-    ("names in one statement", long_statement, 300),
+    ("nested DOs around assignments", nested, 4_999),
+    ("names in one statement", long_statement, 400),
     ("units", units, 200),
 ]
 
